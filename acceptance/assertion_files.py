@@ -2,8 +2,8 @@
 """Assertion files that hold, that differ or that are refused, tried on the built program.
 
 acceptance/assertion_files.py PROGRAM [FILES] checks each file of the tables below against examples/row1.raire. Then it
-takes what a search prints of generated contests, one of three in version 1 and the others in version 2, with draws, changes it, and
-checks so many files, 1,500 if no number is given. Each answer is also compared with plain.py. The last lines say how many came out
+takes what a search prints of generated contests, one of three in version 1 and the others in version 2, with draws, or either without its
+order as version 3, changes it, and checks so many files, 1,500 if no number is given. Each answer is also compared with plain.py. The last lines say how many came out
 as they should.
 """
 import collections
@@ -55,6 +55,15 @@ def without(name):
     return compact({key: value for key, value in json.loads(PRINTED).items() if key != name})
 
 
+def covered(*changes):
+    """What is printed without its order, with the changes."""
+    return put(ORDER + b",", b"", VERSION, b'"version":3', *changes)
+
+
+def covered_by(*listed):
+    return covered(b",".join([NEB, NEN_2, NEN_3]), b",".join(listed))
+
+
 def ids(count):
     return b"[" + b",".join(b'"%d"' % c for c in range(1, count + 1)) + b"]"
 
@@ -63,6 +72,7 @@ CONTEST, MARGIN, RECORDS, VERSION = b'"contest":"1"', b'"margin":1,"order"', b'"
 WINNER, LIST, ORDER = b'"winner":"2"}\n', b'"candidates":["1","2","3"]', b'"order":["2","1","3"]'
 LOSER, REST = b'"loser":"3"', b'"rest":["1","2"]'
 PLANNED = b'"cards":12,"gamma":100,"limit":50000,"version":2'
+PLANNED_3 = b'"cards":12,"gamma":100,"limit":50000,"version":3'
 FIRST_2, SECOND_2, THIRD_2 = (with_member(claim, draws=None) for claim in (NEB, NEN_2, NEN_3))
 
 
@@ -110,6 +120,16 @@ ACCEPTED = [
     ("127 levels", further(b"[" * 126 + b"]" * 126), 3),
 ]
 
+# the same of files without an order, whose margin isn't said to be the best
+COVERING = [
+    ("what a search prints, without its order", covered(), 3),
+    ("an assertion less, which isn't needed, and no order", covered_by(NEB, NEN_2), 2),
+    ("assertions in another order, and no order", covered_by(NEN_3, NEB, NEN_2, NEB), 4),
+    ("as few nodes as suffice, and no order", covered(), 3, "--nodes=1"),
+    ("draws and no order", covered(b'"version":3', PLANNED_3, NEB, FIRST_2, NEN_2, SECOND_2, NEN_3, THIRD_2), 3),
+    ("blanks between, and no order", covered().replace(b",", b" ,\r\n"), 3),
+]
+
 # what it shows, the file, the status, the text, further words
 DIFFERENT = [
     ("no NEB", claims(NEN_2, NEN_3), 6, "no: order 2,1,3 stands"),
@@ -139,6 +159,15 @@ DIFFERENT = [
     ("too few nodes for the other candidate", claims(NEN_2, NEN_3), 4, "spent\ncandidate 3", "--nodes", "1"),
     ("draws of version 2", put(VERSION, PLANNED, NEB, with_member(NEB, draws=12), NEN_2, with_member(NEN_2, draws=1), NEN_3, with_member(NEN_3, draws=1)), 6,
      "no: assertion 1 needs a full count"),
+    ("no order, and no NEB", covered_by(NEN_2, NEN_3), 6, "no: order 2,1,3 stands"),
+    ("no order, and no NEN that is needed", covered_by(NEB, NEN_3), 6, "no: order 3,2,1 stands"),
+    ("no order, and the last assertion missing", covered_by(NEN_2, NEN_3, with_member(NEB, loser="1", margin=2)), 6, "no: assertion 3 has margin -1"),
+    ("no order, and another margin claimed", covered_by(NEB, with_member(NEN_2, margin=1), NEN_3), 6, "no: assertion 2 has margin 2"),
+    ("no order, and a larger margin than the smallest", covered(b'"margin":1,"records"', b'"margin":2,"records"'), 6, "no: smallest margin is 1"),
+    ("no order, and no assertions", covered_by(), 6, "no: order 3,2,1 stands"),
+    ("no order, and another winner", covered(WINNER, b'"winner":"3"}\n'), 6, "no: winner is 2"),
+    ("no order, and other draws", covered(b'"version":3', PLANNED_3, NEB, FIRST_2, NEN_2, SECOND_2, NEN_3, with_member(NEN_3, draws=1)), 6,
+     "no: assertion 3 needs a full count"),
     ("margins come before nodes", claims(with_member(NEN_2, margin=1)), 6, "no: assertion 1 has margin 2", "--nodes=1"),
 ]
 
@@ -188,7 +217,7 @@ REFUSED = [
     ("null in the order", put(ORDER, b'"order":["2",null,"3"]'), "F2 at 0"),
     ("an order as a text", put(ORDER, b'"order":"213"'), "F2 at 0"),
     ("no contest but null", contest(b"null"), "F2 at 0"),
-    ("kinds come before the version", put(VERSION, b'"version":3', CONTEST, b'"contest":1'), "F2 at 0"),
+    ("kinds come before the version", put(VERSION, b'"version":4', CONTEST, b'"contest":1'), "F2 at 0"),
     ("another kind in the second", claims(NEB, with_member(NEN_2, kind="NEC"), NEN_3), "F2 at 2"),
     ("a kind in small letters", claims(with_member(NEB, kind="neb"), NEN_2, NEN_3), "F2 at 1"),
     ("a NEN without a rest", claims(NEB, NEN_2, with_member(NEB, kind="NEN")), "F2 at 3"),
@@ -197,10 +226,21 @@ REFUSED = [
     ("an assertion that is no object", claims(NEB, NEN_2, NEN_3, b"[]"), "F2 at 4"),
     ("an assertion's margin with a point", claims(NEB, with_member(NEN_2, margin=2.5), NEN_3), "F2 at 2"),
     ("an assertion's loser as a number", claims(with_member(NEB, loser=3), NEN_2, NEN_3), "F2 at 1"),
-    ("version 3", put(VERSION, b'"version":3'), "F3 at 0"),
+    ("version 4", put(VERSION, b'"version":4'), "F3 at 0"),
+    ("version 4 without an order", put(VERSION, b'"version":4', ORDER + b",", b""), "F2 at 0"),
+    ("version 3 with an order", put(VERSION, b'"version":3'), "F2 at 0"),
+    ("version 3 with an order that is null", put(VERSION, b'"version":3', ORDER, b'"order":null'), "F2 at 0"),
+    ("version 3 with cards alone", covered(b'"version":3', b'"cards":12,"version":3'), "F2 at 0"),
+    ("version 3 without a limit", covered(b'"version":3', b'"cards":12,"gamma":100,"version":3', NEB, FIRST_2, NEN_2, SECOND_2, NEN_3, THIRD_2), "F2 at 0"),
+    ("version 3 with a limit that is null", covered(b'"version":3', PLANNED_3.replace(b"50000", b"null")), "F2 at 0"),
+    ("version 3 with draws for nothing", covered(NEN_3, THIRD_2), "F2 at 3"),
+    ("version 3 with draws of one alone", covered(b'"version":3', PLANNED_3, NEB, FIRST_2), "F2 at 2"),
+    ("version 3 with cards below the records", covered(b'"version":3', PLANNED_3.replace(b"12", b"11"), NEB, FIRST_2), "F6 at 0"),
+    ("version 3 with a margin above the records", covered(b'"margin":1,"records"', b'"margin":13,"records"'), "F6 at 0"),
+    ("version 3 with a winner who is no candidate", covered(WINNER, b'"winner":"4"}\n'), "F4 at 0"),
     ("version 2 without its members", put(VERSION, b'"version":2'), "F2 at 0"),
     ("version 0", put(VERSION, b'"version":0'), "F3 at 0"),
-    ("the version comes before ids", put(VERSION, b'"version":3', CONTEST, b'"contest":""'), "F3 at 0"),
+    ("the version comes before ids", put(VERSION, b'"version":4', CONTEST, b'"contest":""'), "F3 at 0"),
     ("a contest without an id", contest(b'""'), "F4 at 0"),
     ("a contest's id of 65 bytes", contest(b'"%s"' % (b"x" * 65)), "F4 at 0"),
     ("a comma in an id", contest(b'"1,2"'), "F4 at 0"),
@@ -289,7 +329,10 @@ def differs(shows, wanted, found, by):
 
 def failures_of_tables(program, folder):
     path = os.path.join(folder, "assertions.json")
-    cases = [(shows, data, (0, f"yes\nassertions {count}\nmargin 1\n", ""), words) for shows, data, count, *words in ACCEPTED]
+    cases = [
+        (shows, data, (0, f"yes\nassertions {count}\nmargin 1\n{more}", ""), words)
+        for files, more in ((ACCEPTED, ""), (COVERING, "not said to be best\n")) for shows, data, count, *words in files
+    ]
     cases += [(shows, data, (status, text + "\n", ""), words) for shows, data, status, text, *words in DIFFERENT]
     cases += [(shows, data, (2, "", f"raire: {path}: {rule}\n"), ()) for shows, data, rule in REFUSED]
     contest, failed = plain.read(BALLOTS), 0
@@ -324,13 +367,13 @@ def claim_in(draws, file):
 
 
 def true_claim(draws, contest, file):
-    """A proper assertion, with its margin and, in version 2, its draws."""
+    """A proper assertion, with its margin and, where there is a plan, its draws."""
     w = draws.below(contest.n)
     l = (w + 1 + draws.below(contest.n - 1)) % contest.n
     standing = sorted({w, l} | {c for c in range(contest.n) if draws.below(2)})
     assertion = ("NEN", w, l, frozenset(standing)) if draws.below(3) else ("NEB", w, l)
     claim = {"kind": assertion[0], "loser": contest.ids[l], "margin": contest.margin(assertion), "winner": contest.ids[w]}
-    if file["version"] == 2:
+    if plain.is_planned(file):
         claim["draws"] = plain.Plan(file["cards"], file["limit"], file["gamma"]).draws(claim["margin"]) if claim["margin"] > 0 else 1
     return {**claim, "rest": [contest.ids[c] for c in standing]} if assertion[0] == "NEN" else claim
 
@@ -449,7 +492,16 @@ def replan_far(draws, contest, file):
 
 
 def reversion(draws, contest, file):
-    file["version"] = one_of(draws, [0, 1, 2, 3])
+    file["version"] = one_of(draws, [0, 1, 2, 3, 4])
+
+
+def unorder(draws, contest, file):
+    del file["order"]
+    file["version"] = 3
+
+
+def reorder_version(draws, contest, file):
+    file["order"] = list(contest.ids)
 
 
 def keep(draws, contest, file):
@@ -462,6 +514,7 @@ CHANGES = [
     recontest, remove, unkind,
 ]
 CHANGES_2 = [*CHANGES, redraw, redraw, redraw, replan, replan, replan_far, replan_far, remove, unkind, reversion]
+CHANGES_3 = [reorder_version, redraw, remove, remargin, drop, drop, add, add, replan_far]
 
 
 def damaged(draws, data):
@@ -476,7 +529,8 @@ def changed(draws, contest, printed):
     file, data = copy.deepcopy(printed), None
     try:
         for _ in range(1 + draws.below(2)):
-            one_of(draws, CHANGES_2 if "cards" in printed else CHANGES)(draws, contest, file)
+            changes = [*(CHANGES_2 if "cards" in printed else CHANGES), *([] if "order" in printed else CHANGES_3)]
+            one_of(draws, changes)(draws, contest, file)
     except (AttributeError, KeyError, TypeError):
         pass  # the first change took away what the second one wanted
     data = compact(file) + b"\n"
@@ -484,7 +538,7 @@ def changed(draws, contest, printed):
 
 
 def plan_of(draws, contest):
-    """Cards, limit and gamma of a file of version 2."""
+    """Cards, limit and gamma of a file with draws."""
     return plain.Plan(contest.records + draws.below(one_of(draws, [3, 100, 10_000])), 1 + draws.below(400_000), 1 + draws.below(GREATEST_GAMMA))
 
 
@@ -510,6 +564,8 @@ def failures_of_changes(program, folder, files):
             compare.write(ballots, names, rankings)
             contest = plain.Contest("9", names, rankings)
             printed = printed_of(contest, plan_of(draws, contest) if number // 5 % 3 else None)
+            if number // 5 % 2:
+                unorder(draws, contest, printed)
         data = changed(draws, contest, printed)
         with open(path, "wb") as file:
             file.write(data)

@@ -41,6 +41,12 @@ def put(folder, name, text):
     return path
 
 
+def empty(folder):
+    path = os.path.join(folder, "empty")
+    os.mkdir(path)
+    return path
+
+
 @case
 def dominion_of_another_version(folder):
     words = dominion(folder, session(1), version="4.21.3")
@@ -122,7 +128,7 @@ def dominion_no_current_version(folder):
 def dominion_contest_twice_on_a_card(folder):
     twice = session(1)
     twice["Original"]["Cards"] *= 2
-    return dominion(folder, twice), 2, "CvrExport.json: session 1: contest 5: stands twice on the card"
+    return dominion(folder, twice), 2, "CvrExport.json: session 1: contest 5: is on the card twice"
 
 
 @case
@@ -145,7 +151,7 @@ def dominion_without_a_manifest(folder):
 @case
 def dominion_cut_off(folder):
     text = json.dumps({"Version": "5.10", "Sessions": [session(1), session(2)]})
-    told = "CvrExport.json: no JSON, or cut off behind Sessions 1: parse error: premature EOF"
+    told = "CvrExport.json: no JSON, or cut off after Sessions 1: parse error: premature EOF"
     return dominion(folder, files={"CvrExport.json": text[:-30]}), 2, told
 
 
@@ -181,6 +187,37 @@ def dominion_no_such_folder(folder):
     return ["dominion", os.path.join(folder, "none.zip")], 12, "none.zip: no such file"
 
 
+@case
+def dominion_missing_folder(folder):
+    return ["dominion", os.path.join(folder, "none")], 12, "none: no such file"
+
+
+@case
+def dominion_missing_folder_beside_a_good_one(folder):
+    return [*dominion(folder, session(1, (1, 1))), os.path.join(folder, "none")], 12, "none: no such file"
+
+
+NOTHING_OF_DOMINION = "has no file of an export: CvrExport.json, ContestManifest.json, CandidateManifest.json"
+
+
+@case
+def dominion_empty_folder_beside_a_good_one(folder):
+    return [*dominion(folder, session(1, (1, 1))), empty(folder)], 2, f"empty: {NOTHING_OF_DOMINION}"
+
+
+@case
+def dominion_empty_zip_beside_a_good_folder(folder):
+    words, path = dominion(folder, session(1, (1, 1))), os.path.join(folder, "empty.zip")
+    with zipfile.ZipFile(path, "w") as archive:
+        archive.writestr("readme.txt", "nothing")
+    return [*words, path], 2, f"empty.zip: {NOTHING_OF_DOMINION}"
+
+
+@case
+def dominion_path_through_a_file(folder):
+    return [*dominion(folder, session(1, (1, 1))), os.path.join(folder, "CvrExport.json", "more")], 7, "CvrExport.json/more: Not a directory"
+
+
 # ---- NIST SP 1500-103
 
 def report(record=None, contest=None, **other):
@@ -209,6 +246,16 @@ def nist(folder, *reports):
 
 def votes_of(*selections):
     return {"CVRSnapshot": [{"@id": "now", "CVRContest": [{"ContestId": "c", "CVRContestSelection": list(selections)}]}]}
+
+
+@case
+def nist_empty_folder_beside_a_report(folder):
+    return [*nist(folder, report()), empty(folder)], 2, "empty: has no file"
+
+
+@case
+def nist_missing_folder_beside_a_report(folder):
+    return [*nist(folder, report()), os.path.join(folder, "none")], 12, "none: no such file"
 
 
 @case
@@ -341,7 +388,7 @@ def ess_empty(folder):
 @case
 def ess_one_file_without_records(folder):
     words = ["ess", put(folder, "a.csv", ESS + "1,P,Ash,Birch\n"), put(folder, "b.csv", ESS)]
-    return words, 2, "b.csv: has no records behind its head"
+    return words, 2, "b.csv: has no records below its head"
 
 
 @case
@@ -487,6 +534,11 @@ def preflib_of_another_type(folder):
 @case
 def preflib_unknown_contest(folder):
     return [*preflib(folder), "--contest", "Clerk"], 2, "a.soi: no contest has the name or id Clerk; there are: Mayor"
+
+
+@case
+def preflib_names_that_look_alike(folder):
+    return preflib(folder, ("NAME 2: Birch", "NAME 2: A sh")), 2, "a.soi: line 7: A sh and Ash look alike (case, blanks and letter forms don't count); add what tells them apart"
 
 
 @case
@@ -709,13 +761,13 @@ def dominion_csv_two_in_a_cell(folder):
 
 @case
 def dominion_csv_cards_that_are_missing(folder):
-    told = "a.csv: CvrNumber goes from 1 to 3 on 2 cards: cards are missing, or stand twice; --counts ignore takes what is there"
+    told = "a.csv: CvrNumber goes from 1 to 3 on 2 cards: cards are missing or duplicated; --counts ignore takes what is there"
     return by_columns(folder, ONE, ["3", *TWO[1:]]), 2, told
 
 
 @case
 def dominion_csv_that_begins_later(folder):
-    told = "a.csv: CvrNumber goes from 2 to 2 on 1 cards: cards are missing, or stand twice; --counts ignore takes what is there"
+    told = "a.csv: CvrNumber goes from 2 to 2 on 1 cards: cards are missing or duplicated; --counts ignore takes what is there"
     return by_columns(folder, TWO), 2, told
 
 
@@ -769,6 +821,27 @@ def hart_without_files(folder):
 
 
 @case
+def hart_missing_folder(folder):
+    return ["hart", os.path.join(folder, "none")], 12, "none: no such file"
+
+
+@case
+def hart_missing_folder_beside_a_good_one(folder):
+    return [*hart(folder, card_of(1, BOTH)), os.path.join(folder, "none")], 12, "none: no such file"
+
+
+@case
+def hart_empty_folder_beside_a_good_one(folder):
+    return [*hart(folder, card_of(1, BOTH)), empty(folder)], 2, "empty: has no .xml file; a file for each card was looked for (Hart's CVR folders)"
+
+
+@case
+def hart_candidate_of_two_names(folder):
+    words = hart(folder, card_of(1, BOTH), card_of(2, BOTH.replace("<Name>Ash", "<Name>Elm")))
+    return words, 2, "2.xml: contest m: the candidate Ash is called Elm, and Ash on an earlier card"
+
+
+@case
 def hart_of_another_root(folder):
     return hart(folder, card_of(1, BOTH, root="Ballot")), 2, "1.xml: is a Ballot; a Cvr was looked for (Hart's form)"
 
@@ -802,7 +875,7 @@ def hart_contest_of_two_names(folder):
 @case
 def hart_contest_twice_on_a_card(folder):
     twice = card_of(1, BOTH).replace("<Contests>", "<Contests><Contest><Name>Mayor</Name><Id>m</Id><Options/></Contest>")
-    return hart(folder, twice), 2, "1.xml: contest m: stands twice on the card"
+    return hart(folder, twice), 2, "1.xml: contest m: is on the card twice"
 
 
 @case
@@ -838,6 +911,12 @@ def clear_ballot_without_a_contest(folder):
 
 
 @case
+def clear_ballot_names_that_look_alike(folder):
+    words = clear_ballot(folder, "1,b,1,1,,,1,2", head=CLEAR.replace(":Birch:", ":ASH:"))
+    return words, 2, "a.csv: line 1: column 8: ASH and Ash of Mayor look alike (case, blanks and letter forms don't count); write one of them for both in the head, or add what tells them apart"
+
+
+@case
 def clear_ballot_of_another_form(folder):
     return clear_ballot(folder, head="id,1st\n"), 2, "a.csv: line 1: no column begins with Choice_, which was looked for (Clear Ballot's form)"
 
@@ -851,7 +930,7 @@ def clear_ballot_choice_without_a_party(folder):
 
 @case
 def clear_ballot_row_that_is_missing(folder):
-    told = "a.csv: line 3: RowNumber is 3 after 1: rows are missing, or stand twice; --counts ignore takes what is there"
+    told = "a.csv: line 3: RowNumber is 3 after 1: rows are missing or duplicated; --counts ignore takes what is there"
     return clear_ballot(folder, "1,b,1,1,,,1,2", "3,b,3,3,,,1,2"), 2, told
 
 
@@ -945,20 +1024,34 @@ def plain_write_in_with_a_name(folder):
 
 @case
 def plain_name_in_capitals(folder):
-    told = ("a.csv: line 3: rank 1: ASH and Ash differ by case or blanks alone; --word 'ASH=Ash' says that they are one, 'ASH=candidate' that they are two")
+    told = ("a.csv: line 3: rank 1: ASH and Ash look alike (case, blanks and letter forms don't count); --word 'ASH=Ash' says that they are one, 'ASH=candidate' that they are two")
     return ["plain", put(folder, "a.csv", "id,1,2\nb_1,Ash,Birch\nb_2,ASH,Birch\n")], 2, told
 
 
 @case
 def plain_name_with_another_blank(folder):
-    told = ("a.csv: line 3: rank 2: Ann  Lee and Ann Lee differ by case or blanks alone; --word 'Ann  Lee=Ann Lee' says that they are one, "
-            "'Ann  Lee=candidate' that they are two")
+    told = ("a.csv: line 3: rank 2: Ann  Lee and Ann Lee look alike (case, blanks and letter forms don't count); "
+            "--word 'Ann  Lee=Ann Lee' says that they are one, 'Ann  Lee=candidate' that they are two")
     return ["plain", put(folder, "a.csv", "id,1,2\nb_1,Ann Lee,Birch\nb_2,Birch,Ann  Lee\n")], 2, told
 
 
 @case
+def plain_name_with_other_letter_forms(folder):
+    told = ("a.csv: line 3: rank 1: Zoe\u0308 and Zo\u00eb look alike (case, blanks and letter forms don't count); --word 'Zoe\u0308=Zo\u00eb' says that they are "
+            "one, 'Zoe\u0308=candidate' that they are two")
+    return ["plain", put(folder, "a.csv", "id,1,2\nb_1,Zo\u00eb,Birch\nb_2,Zoe\u0308,Birch\n")], 2, told
+
+
+@case
+def listed_names_that_look_alike(folder):
+    listed = put(folder, "listed.txt", "Ash\nBirch\nash\n")
+    told = "listed.txt: line 3: ash and Ash look alike (case, blanks and letter forms don't count); --word 'ash=candidate' says that they are two"
+    return ["plain", put(folder, "a.csv", "id,1,2\nb_1,Ash,Birch\n"), f"--candidates={listed}"], 2, told
+
+
+@case
 def a_word_without_a_meaning(folder):
-    told = "--word wants a cell, = and what it stands for, such as 'over vote=overvote'; it has Ash"
+    told = "--word needs a cell, = and what it means, such as 'over vote=overvote'; it has Ash"
     return ["plain", put(folder, "a.csv", "id,1\nb_1,Ash\n"), "--word", "Ash"], 1, told
 
 
@@ -996,7 +1089,7 @@ def seen(folder, text, *more, form="seen"):
 
 @case
 def seen_card_twice(folder):
-    return seen(folder, "b_1,ballot,Ash\nb_1,ballot,Ash\n"), 2, "seen.csv: record 2: the card b_1 stood before"
+    return seen(folder, "b_1,ballot,Ash\nb_1,ballot,Ash\n"), 2, "seen.csv: record 2: the card b_1 came before"
 
 
 @case
@@ -1006,7 +1099,12 @@ def seen_nobody_who_is_a_candidate(folder):
 
 @case
 def seen_without_a_reading(folder):
-    return seen(folder, "b_1,\n"), 2, "seen.csv: record 1: nothing is neither ballot, marks nor missing, nor a contest of b.raire"
+    return seen(folder, "b_1,\n"), 2, "seen.csv: record 1: the card b_1 has no reading"
+
+
+@case
+def seen_of_a_contest_without_a_reading(folder):
+    return seen(folder, "b_1,Mayor,\n"), 2, "seen.csv: record 1: the card b_1 has no reading: neither ballot, marks nor missing stands after it"
 
 
 @case
@@ -1033,7 +1131,7 @@ def marks_of_a_write_in_who_is_no_candidate(folder):
 
 @case
 def marks_without_ballots(folder):
-    return seen(folder, "b_1,marks\n", form="marks")[:2], 1, "marks wants the candidates: --ballots; ./raire help convert tells its words"
+    return seen(folder, "b_1,marks\n", form="marks")[:2], 1, "marks needs the candidates: --ballots; ./raire help convert lists its words"
 
 
 @case
@@ -1044,7 +1142,7 @@ def without_somebody_else(folder):
 @case
 def skips_of_plurality(folder):
     words = [*dominion(folder, session(1)), "--as", "plurality", "--skips", "one"]
-    return words, 1, "--skips has no meaning with --as plurality; ./raire help convert tells its words"
+    return words, 1, "--skips has no meaning with --as plurality; ./raire help convert lists its words"
 
 
 # ---- words
@@ -1052,14 +1150,14 @@ def skips_of_plurality(folder):
 @case
 def an_option_of_another_form(folder):
     words = [*preflib(folder), "--sheet", "Sheet1"]
-    return words, 1, "--sheet has no meaning for preflib; ./raire help convert tells its words"
+    return words, 1, "--sheet has no meaning for preflib; ./raire help convert lists its words"
 
 
 @case
 def an_option_twice(folder):
-    return [*preflib(folder), "--title", "a", "--title", "b"], 1, "--title stands twice; ./raire help convert tells its words"
+    return [*preflib(folder), "--title", "a", "--title", "b"], 1, "--title is given twice; ./raire help convert lists its words"
 
 
 @case
 def ranks_that_are_no_number(folder):
-    return [*preflib(folder), "--ranks", "0"], 1, "--ranks wants a number from 1 to 1000; ./raire help convert tells its words"
+    return [*preflib(folder), "--ranks", "0"], 1, "--ranks needs a number from 1 to 1000; ./raire help convert lists its words"

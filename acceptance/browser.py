@@ -35,6 +35,40 @@ class Browser:
         self.ask("Page.enable")
         self.ask("Browser.setDownloadBehavior", is_of_page=False, behavior="allow", downloadPath=downloads)
 
+    def further_page(self):
+        """The session of one more page of this browser, in a tab of its own."""
+        target = self.ask("Target.createTarget", is_of_page=False, url="about:blank")["targetId"]
+        return self.ask("Target.attachToTarget", is_of_page=False, targetId=target, flatten=True)["sessionId"]
+
+    def turn_to(self, session):
+        """Goes on with the page of a session."""
+        self.session = session
+        self.ask("Page.enable")
+        self.ask("Page.bringToFront")
+
+    def go_back(self):
+        """Presses the button that goes back; whether there was a page to go back to."""
+        history = self.patiently("Page.getNavigationHistory")
+        at = history["currentIndex"] - 1
+        if at < 0:
+            return False
+        self.ask("Page.navigateToHistoryEntry", entryId=history["entries"][at]["id"])
+        end = time.monotonic() + PATIENCE
+        while time.monotonic() < end and self.patiently("Page.getNavigationHistory")["currentIndex"] != at:
+            time.sleep(0.02)
+        return True
+
+    def patiently(self, method, **given):
+        """The same as `ask`, also while one page takes the place of another."""
+        end = time.monotonic() + PATIENCE
+        while True:
+            try:
+                return self.ask(method, **given)
+            except RuntimeError:
+                if time.monotonic() > end:
+                    raise
+                time.sleep(0.02)
+
     def __enter__(self):
         return self
 

@@ -2,8 +2,8 @@
 """Files whose author picked ids and names with one digest, and cards and assertions that crowd in a table, by a hash with a known seed.
 
 acceptance/colliding.py PROGRAM runs commands on such files and on honest ones of the same size. Status and standard error have to
-be the same, and the processor time has to be within ten times that of the honest file, for assertions within twice. The last line
-says how many were.
+be the same, and the processor time has to be within twice that of the honest file; of ids of ballots, batches, cards and members within ten
+times. The last line says how many were.
 """
 import json
 import os
@@ -13,15 +13,21 @@ import sys
 import tempfile
 
 import places  # noqa: F401
-from limits import MOST_BATCH_CARDS, MOST_RECORDS
+from limits import MOST_BATCH_CARDS, MOST_CONTESTS, MOST_RECORDS
 
-MOST_TIMES = 10
-MOST_TIMES_OF_ASSERTIONS = 2
+MOST_TIMES = 2
+MOST_TIMES_OF_IDS = 10
 # What is shorter than this counts as this, since the start of a program isn't what is measured.
 LEAST_SECONDS = 0.05
 BATCHES = 65_536
 CARD_BATCHES = 5
 MEMBERS = 1_000_000
+# Candidates of a contest that nobody asks for, its ballots, and how many candidates each ranks.
+RIVALS = 300
+LONG_BALLOTS = 25_000
+RANKED = 50
+# Ballots of the last of many contests.
+LATE_BALLOTS = 250_000
 ASSERTIONS = 100_000
 # More than have a table of all sets.
 CANDIDATES = 25
@@ -40,6 +46,11 @@ def folded(a, b):
 
 def word(data, at):
     return int.from_bytes(data[at:at + 8], "little")
+
+
+def after_length(state, number):
+    """The state once the length of a list was taken, ahead of its bytes."""
+    return folded(state ^ number, MULTIPLIER ^ 16)
 
 
 def after_one(state, byte):
@@ -78,6 +89,24 @@ def crowded_cards(most):
     """Numbers of cards that all begin in a 64th of the groups of a table for them."""
     groups = 1 << (most // 64 // 9).bit_length()
     return [card for card in range(1, most + 1) if group(after_four(SEED, card), groups) < groups // 64]
+
+
+def crowded_names(front, most):
+    """Names that begin in the same group of a table for them and have one tag there, so that each is compared; keys are hashed a byte at a time."""
+    groups = 1 << (most // 9).bit_length()
+    start = after_length(SEED, len(front) + 8)
+    for byte in front.encode():
+        start = after_one(start, byte)
+    states, found = [("", start)], []
+    while states:
+        digits, state = states.pop()
+        if len(digits) < 8:
+            states += [(f"{digits}{digit}", after_one(state, ord("0") + digit)) for digit in range(10)]
+        elif group(state, groups) == 0 and (state ^ state >> 32) >> 24 & 0xFF == 1:
+            found.append(front + digits)
+            if len(found) == most:
+                return found
+    raise AssertionError("too few names crowd")
 
 
 def spread_and_crowded_sets():
@@ -136,7 +165,7 @@ class Runs:
             raise AssertionError(f"{' '.join(words)}: {status} {told}")
         return printed
 
-    def pair(self, shows, honest, colliding, most_times=MOST_TIMES):
+    def pair(self, shows, honest, colliding, most_times=MOST_TIMES_OF_IDS):
         self.count += 1
         long, status, told, _ = self.timed(honest)
         try:
@@ -168,6 +197,26 @@ def ballots(runs):
     write("honest", ["2\nContest,1,2,a,b\nContest,2,2,a,b\n1,x,a\n", *(f"2,{ballot},a\n" for ballot in honest[:-1])])
     write("colliding", ["2\nContest,1,2,a,b\nContest,2,2,a,b\n1,x,a\n", *(f"2,{ballot},a\n" for ballot in colliding[:-1])])
     runs.pair("ids of ballots of another contest", ["tabulate", "honest", "--contest=1"], ["tabulate", "colliding", "--contest=1"])
+
+
+def candidates(runs):
+    """Names of candidates of a contest that nobody asks for, as its ballots rank them."""
+    front = f"{'candidate':>024}"
+    for file, names in (("honest", [f"{front}{number:08}" for number in range(RIVALS)]), ("colliding", crowded_names(front, RIVALS))):
+        ranked = (",".join(names[(number * 7919 + rank * 31) % RIVALS] for rank in range(RANKED)) for number in range(LONG_BALLOTS))
+        heads = f"2\nContest,1,2,a,b\nContest,2,{RIVALS},{','.join(names)}\n1,x,a\n"
+        write(file, [heads, *(f"2,{number},{preferences}\n" for number, preferences in enumerate(ranked))])
+    runs.pair("names of candidates", ["tabulate", "honest", "--contest=1"], ["tabulate", "colliding", "--contest=1"], MOST_TIMES)
+
+
+def contests(runs):
+    """Ballots of the last of as many contests as a file has."""
+    for file, front in (("honest", f"{'contest':>024}"), ("colliding", alike_front())):
+        names = [f"{front}{number:08}" for number in range(MOST_CONTESTS)]
+        heads = [f"{MOST_CONTESTS}\n", *(f"Contest,{name},2,a,b\n" for name in names), f"{names[0]},x,a\n"]
+        write(file, [*heads, *(f"{names[-1]},{number},a\n" for number in range(LATE_BALLOTS))])
+    first = [f"--contest={front}{0:08}" for front in (f"{'contest':>024}", alike_front())]
+    runs.pair("ids of contests", ["tabulate", "honest", first[0]], ["tabulate", "colliding", first[1]], MOST_TIMES)
 
 
 def batches(runs):
@@ -220,12 +269,12 @@ def assertions(runs):
         write(name, [json.dumps(file, separators=(",", ":")), "\n"])
     for command in ("check", "trim"):
         words = ([command, "ballots", name] for name in ("honest", "colliding"))
-        runs.pair(f"assertions, {command}", *words, most_times=MOST_TIMES_OF_ASSERTIONS)
+        runs.pair(f"assertions, {command}", *words, MOST_TIMES)
 
 
 def main():
     runs, here = Runs(sys.argv[1]), os.getcwd()
-    for part in (ballots, batches, cards, members, assertions):
+    for part in (ballots, candidates, contests, batches, cards, members, assertions):
         with tempfile.TemporaryDirectory() as folder:
             os.chdir(folder)
             part(runs)

@@ -222,10 +222,11 @@ def bad():
             words, status, told = make(os.path.join(folder, "in"))
             names, account = (os.path.join(folder, each) for each in ("names.csv", "account.txt"))
             got = called([*words, "--names", names, "--account", account])
-            wanted = status, b"", f"convert: {told}{'. What to do: docs/faults.md' * (status == 2)}\n"
             shown = got[2].replace(os.path.join(folder, "in") + "/", "").replace(os.path.join(folder, "in"), "in")
             left = [each for each in os.listdir(folder) if each != "in"]
-            yield f"bad: {name}", None if (got[0], got[1], shown) == wanted and not left else f"{got[0]}, {len(got[1])} bytes, {left}: {shown}wanted {wanted}"
+            is_told = shown.partition(". What to do: ")[0].rstrip("\n") == f"convert: {told}" and shown.count("\n") == 1
+            is_so = (got[0], got[1]) == (status, b"") and is_told and not left
+            yield f"bad: {name}", None if is_so else f"{got[0]}, {len(got[1])} bytes, {left}: {shown}wanted {status}, {told}"
 
 
 def too_large():

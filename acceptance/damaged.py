@@ -51,8 +51,8 @@ WORDS = {
     "csv": [b",", b"\n", b"\r\n", b"\r", b'"', b'""', b" ", b"\t", b"\xef\xbb\xbf", b"\0", b"\xff", b"0", b"1", b"-1", b"1000001", b"Contest",
             b"ballot", b"missing", b"batch,cards\n", b"_", b"x" * 65, b"99999999999"],
     "json": [b",", b"\n", b'"', b"{", b"}", b"[", b"]", b":", b"\\", b"\\u0041", b"\\ud800", b"\xff", b"0", b"-1", b"1.0", b"1e1", b"1e999", b"null",
-             b"true", b"4294967296", b"18446744073709551616", b"NaN", b'"version":1,', b'"margin":1,', b"[" * 130, b"NEB", b"NEN", b'"version":2,',
-            b'"cards":9,', b'"draws":null,', b'"draws":1,', b'"limit":1,'],
+             b"true", b"4294967296", b"18446744073709551616", b"NaN", b'"version":1,', b'"margin":1,', b"[" * 130, b"NEB", b"NEN", b'"version":2,', b'"version":3,',
+             b'"cards":9,', b'"draws":null,', b'"draws":1,', b'"limit":1,'],
 }
 
 

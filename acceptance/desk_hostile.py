@@ -23,6 +23,9 @@ from desk_walks import go_through, read_cards, take, WALKS
 STEPS = ("records", "contest", "cards", "assertions", "plan", "terms", "seed", "fetch1", "read1", "round1", "count", "end")
 URLENCODED = {"Content_Type": "application/x-www-form-urlencoded"}
 SCRIPT = "<script>alert(1)</script>"
+EXPORT = [
+    ("way", "export"), ("format", "plain"), ("title", "Mayor"), ("overvotes", "end"), ("skips", "pass"), ("repeats", "pass"), ("write-ins", "merge"),
+]
 NAMES = (
     "../commands.txt", "..%2f..%2fetc%2fpasswd", "%2e%2e/%2e%2e/etc/passwd", "%2fetc%2fpasswd", "....//etc/passwd", "commands.txt", ".desk", ".desk/output", "%00", "ballots.raire%00.csv", "a" * 300, "a" * 6_000,
     "..", ".", "%5c..%5c", "desk.py", "style.css/../../desk/desk.py", "%c0%ae%c0%ae%2f", "~root", "$(id)", "%0d%0aX-Bad:%201", SCRIPT.replace("<", "%3C").replace(">", "%3E"),
@@ -150,8 +153,17 @@ def texts(stranger, visitor, tried):
             visitor.post("/step/records/back")
             known = [("token", page.hidden("token")), ("version", visitor.go("/step/records").hidden("version"))]
     for name in ("way", "format", "overvotes", "skips"):
-        body, _ = multipart([*known, ("way", "export"), ("format", "plain"), ("overvotes", "end"), ("skips", "pass"), ("repeats", "pass"), ("write-ins", "merge"), (name, SCRIPT)][::-1], [("exports", b"id,1st\n")])
+        body, _ = multipart([*known, (name, SCRIPT), *EXPORT], [("exports", b"id,1st\n")])
         stranger.sends(f"{name} that is none", (400,), "POST", "/step/records/do", body, Content_Type=kind)
+    for name in ("title", "word", "contest", "without", "sheet", "id", "cards", "ranks"):
+        body, _ = multipart([*known, (name, SCRIPT), *EXPORT], [("exports", b"id,1st\nb_1,Ash\n")])
+        answer = visitor.follow(visitor.ask("POST", "/step/records/do", body, Content_Type=kind))
+        tried.asked += 1
+        tried.see(f"{name} with a script", answer.status == 200 and SCRIPT not in answer.text and "Traceback" not in answer.text, answer.words()[:300])
+        if "Undo this step" in answer.text:
+            visitor.page = answer
+            visitor.post("/step/records/back")
+            known = [("token", page.hidden("token")), ("version", visitor.go("/step/records").hidden("version"))]
 
 
 def silence(tried, port):
@@ -236,7 +248,7 @@ def read_in_two_tabs(tried, first, second, walk):
     card = page.hidden("card")
     take(first, walk, 1, "A", page)
     old = second.post("/read/1/A/take", {"card": card, "was": other.hidden("was"), "missing": "yes"})
-    tried.see("a card from an old page is refused", old.status == 400 and "meanwhile" in old.text, (old.status, old.words()[:200]))
+    tried.see("a card from an old page is refused", old.status == 400 and "was saved since this page was loaded" in old.text, (old.status, old.words()[:200]))
     same = first.go("/read/1/B")
     tried.see("two readers have two names", "other reader" in first.post("/read/1/B/begin", {"person": "mk"}).text, same.words()[:200])
     read_cards(first, walk, 1)

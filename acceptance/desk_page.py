@@ -1,8 +1,9 @@
 #!/usr/bin/env python3
 """Goes through audits at ./raire desk in a browser, and looks at its pages.
 
-acceptance/desk_page.py PROGRAM [FOLDER] does the town and the county by clicks, the town once more by keyboard alone, and the village with scripts switched
-off: the files have to be the examples' and those of the commands. Every page is laid out at 390, 1280 and 1920 pixels, dark and as in print (look.js): nothing may overlap or be
+acceptance/desk_page.py PROGRAM [FOLDER] does the town and the county by clicks, the town once more by keyboard alone, the village with scripts switched off,
+and the village once more in two tabs at once, with the button that goes back: the files have to be those of README's commands. Every page is laid out at
+390, 1280 and 1920 pixels, dark and as in print (look.js): nothing may overlap or be
 cut, and contrast, names and what a keyboard reaches have to hold. With a folder as second word the pictures are left there. The last line says how
 many things were as they should be. PROGRAM is the one of ./raire.
 """
@@ -15,18 +16,18 @@ import tempfile
 import time
 
 import browser
+from desk_shown import files_of, is_same
 from desk_visit import Desk, free_ports, HOST, RAIRE, read, TOP
 from desk_walks import READERS, WALKS
 
-LOOKS = {"narrow": (390, "screen", False), "wide": (1280, "screen", False), "widest": (1920, "screen", False), "dark": (1280, "screen", True), "print": (794, "print", False)}
-ENDED = "document.readyState === 'complete' && !location.pathname.startsWith('/running')"
-PATIENCE = 90
-FILES = {"ballots": "ballots.raire", "manifest": "manifest.csv", "counted": "counted.raire"}
-WANTED = {
-    "town": {"assertions.json": "town/assertions.json", "round2.json": "town/session.json"},
-    "village": {"assertions.json": "village/assertions.json", "round1.json": "village/session.json"},
-    "county": {},
+LOOKS = {
+    "narrow": (390, "screen", False), "wide": (1280, "screen", False), "widest": (1920, "screen", False), "dark": (1280, "screen", True),
+    "print": (794, "print", False),
 }
+ENDED = "document.readyState === 'complete' && !location.pathname.startsWith('/running')"
+PATIENCE = 300
+MOST_PAGES_BACK = 3
+FILES = {"ballots": "ballots.raire", "manifest": "manifest.csv", "counted": "counted.raire"}
 
 
 class Tried:
@@ -68,6 +69,9 @@ class Clerk:
         how()
         self.wait("!window.isOld")
 
+    def go(self, path):
+        self.leave(lambda: self.opened.ask("Page.navigate", url=f"{self.origin}{path}"))
+
     def path(self):
         return self.value("location.pathname")
 
@@ -101,7 +105,8 @@ class Clerk:
         self.opened.ask("DOM.setFileInputFiles", files=[path], objectId=node)
 
     def see_step(self, step):
-        self.tried.see(f"{step} is done", self.path() == f"/step/{step}" and self.value("document.querySelector('ul.typed') !== null"), (self.path(), self.text()[:500]))
+        is_done = self.path() == f"/step/{step}" and self.value("document.querySelector('ul.typed') !== null")
+        self.tried.see(f"{step} is done", is_done, (self.path(), self.text()[:500]))
 
     # ---- looks
 
@@ -150,19 +155,28 @@ def by_clicks(clerk, walk):
         if step.startswith("read"):
             for reader in READERS:
                 read_by_clicks(clerk, walk, int(step[4:]), reader)
-        for name, _ in files:
-            clerk.give(name, walk.file(FILES[name]))
-        for name, value in fields.items():
-            if name in ("audit", "budget", "way"):
-                clerk.click(f"label[for='{name}-{value or 'default'}']")
-            else:
-                clerk.fill(name, str(value))
+        fill_in(clerk, walk, fields, files)
         clerk.follow("main .buttons button")
-        if step in ("terms", "seed"):
-            clerk.look(f"{step}_preview")
+        if has_preview(step):
+            clerk.look(f"{step.rstrip('12')}_preview")
             clerk.follow("main .buttons button")
         clerk.see_step(step)
         clerk.look(step.rstrip("12"))
+
+
+def has_preview(step):
+    """Whether what is typed at this step is shown once more before it is fixed."""
+    return step.startswith(("terms", "seed", "fetch"))
+
+
+def fill_in(clerk, walk, fields, files):
+    for name, _ in files:
+        clerk.give(name, walk.file(FILES[name]))
+    for name, value in fields.items():
+        if name in ("audit", "budget", "way"):
+            clerk.click(f"label[for='{name}-{value or 'default'}']")
+        else:
+            clerk.fill(name, str(value))
 
 
 def read_by_clicks(clerk, walk, number, reader):
@@ -225,7 +239,7 @@ def by_keyboard(clerk, walk):
                 clerk.opened.ask("Input.dispatchKeyEvent", type="rawKeyDown", key="a", windowsVirtualKeyCode=65, modifiers=2, commands=["selectAll"])
                 clerk.type(str(value))
         enter(clerk, "main .buttons button")
-        if step in ("terms", "seed"):
+        if has_preview(step):
             enter(clerk, "main .buttons button")
         clerk.see_step(step)
 
@@ -245,6 +259,57 @@ def read_by_keyboard(clerk, walk, number, reader):
         clerk.leave(lambda: clerk.opened.press("Enter"))
 
 
+# ---- two tabs, and the button that goes back
+
+OUTDATED = "gone on since this page was made"
+REPLACED = ("plan", "end")  # steps that may be done anew: the page that the browser loads again when it goes back isn't old
+
+
+def by_two_tabs(clerk, walk, path):
+    """Each step is done in one tab, while the other one still shows it undone, and then the first one goes back. What old pages send changes no file."""
+    tabs = [clerk.opened.session, clerk.opened.further_page()]
+    for step, fields, files in walk.steps():
+        clerk.opened.turn_to(tabs[0])
+        if step.startswith("read"):
+            clerk.go(f"/step/{step}")
+            for reader in READERS:
+                read_by_clicks(clerk, walk, int(step[4:]), reader)
+        for tab in reversed(tabs):
+            clerk.opened.turn_to(tab)
+            clerk.go(f"/step/{step}")
+            fill_in(clerk, walk, fields, files)
+        clerk.follow("main .buttons button")
+        if has_preview(step):
+            clerk.follow("main .buttons button")
+        clerk.see_step(step)
+        before = files_in(path)
+        clerk.opened.turn_to(tabs[1])
+        see_outdated(clerk, f"{step} of the other tab")
+        clerk.opened.turn_to(tabs[0])
+        pages = 0
+        while pages < MOST_PAGES_BACK and clerk.opened.go_back():
+            pages += 1
+            clerk.wait("document.body !== null")
+            if step not in REPLACED and clerk.value("document.querySelector(\"main form[action$='/do'] button, main form[action$='/preview'] button\") !== null"):
+                see_outdated(clerk, f"{step}, {pages} pages back")
+        after = files_in(path)
+        clerk.tried.see(f"{step}: no file is lost or changed by two tabs and {pages} pages back", after == before, sorted(set(after) ^ set(before)))
+
+
+def see_outdated(clerk, what):
+    """Presses the button of a page that is old."""
+    clerk.click("main .buttons button")
+    try:
+        clerk.wait(f"document.body.innerText.includes({json.dumps(OUTDATED)})")
+        clerk.tried.see(f"{what} is refused", True)
+    except TimeoutError as fault:
+        clerk.tried.see(f"{what} is refused", False, fault)
+
+
+def files_in(path):
+    return {name: read(os.path.join(path, name)) for name in os.listdir(path) if os.path.isfile(os.path.join(path, name))}
+
+
 # ---- what else a browser shows
 
 def refusals(clerk, place):
@@ -255,7 +320,8 @@ def refusals(clerk, place):
     clerk.give("ballots", path)
     clerk.follow("main .buttons button")
     said = clerk.text()
-    clerk.tried.see("a refused file is told with its record", "B8 at 3" in said and '"ANN" is no candidate' in said and "nothing was changed" in said, said[:600])
+    is_told = "B8 at 3" in said and '"ANN" is no candidate' in said and "nothing was changed" in said
+    clerk.tried.see("a refused file is told with its record", is_told, said[:600])
     clerk.look("refused")
     clerk.leave(clerk.opened.reload)
     clerk.tried.see("and is told after a reload", "B8 at 3" in clerk.text(), clerk.text()[:300])
@@ -276,6 +342,8 @@ def audit(name, how, place, port, keep):
                 clerk.look("typed")
             elif how == "keyboard":
                 by_keyboard(clerk, walk)
+            elif how == "two tabs":
+                by_two_tabs(clerk, walk, path)
             else:
                 opened.ask("Emulation.setScriptExecutionDisabled", value=True)
                 by_clicks(clerk, walk)
@@ -285,26 +353,17 @@ def audit(name, how, place, port, keep):
     return tried
 
 
-def typed(*words):
-    return subprocess.run([RAIRE, *words], cwd=TOP, capture_output=True).stdout
-
-
 def see_files(tried, name, how, path):
-    wanted = {file: read(os.path.join(TOP, "examples", example)) for file, example in WANTED[name].items()}
-    if name == "county":
-        county = "examples/county"
-        words = ["contests", f"{county}/ballots.raire", f"{county}/manifest.csv", f"{county}/seen.csv", "--seed", WALKS[name]().seed]
-        wanted = {f"county{draws}.txt": typed(*words, "--draws", str(draws)) for draws in (40, 80)}
-    for file, data in wanted.items():
-        there = os.path.join(path, file)
-        tried.see(f"{file} of the {name} by {how} is README's", os.path.exists(there) and read(there) == data)
+    there = files_in(path)
+    for what, file, data in files_of(name, os.path.abspath(sys.argv[3])):
+        tried.see(f"{file} of the {name} by {how} is {what} of README and docs", is_same(what, data, there.get(file)))
     status = subprocess.run([RAIRE, "desk", "--read", path], capture_output=True, text=True)
     tried.see(f"the {name} by {how} is the same when it is run again", status.returncode == 0, status.stdout[-400:])
 
 
 def begun(*way):
     """One audit in a process of its own: the shell that begins a browser knows few numbers of open files."""
-    return subprocess.Popen([sys.executable, __file__, "--way", json.dumps(way)], stdout=subprocess.PIPE, text=True)
+    return subprocess.Popen([sys.executable, __file__, "--way", json.dumps(way), sys.argv[1]], stdout=subprocess.PIPE, text=True)
 
 
 def main():
@@ -316,7 +375,9 @@ def main():
     if keep:
         os.makedirs(keep, exist_ok=True)
     with tempfile.TemporaryDirectory() as place:
-        ways = [("town", "clicks", keep), ("county", "clicks", keep), ("town", "keyboard", None), ("village", "clicks without scripts", None)]
+        ways = [
+            ("town", "clicks", keep), ("county", "clicks", keep), ("town", "keyboard", None), ("village", "clicks without scripts", None), ("village", "two tabs", None),
+        ]
         processes = [begun(name, how, place, port, keep) for (name, how, keep), port in zip(ways, free_ports(len(ways)))]
         ran = [json.loads(process.communicate()[0]) for process in processes]
     count, wrong = sum(each for each, _ in ran), [told for _, of_one in ran for told in of_one]

@@ -13,7 +13,7 @@ import urllib.parse
 
 TOP = os.path.dirname(os.path.dirname(os.path.abspath(__file__)))
 RAIRE = os.path.join(TOP, "raire")
-PATIENCE = 120  # seconds until something that is waited for has to be there
+PATIENCE = 600  # seconds until something that is waited for has to be there
 HOST = "127.0.0.1"
 PR_SET_PDEATHSIG = 1
 

@@ -7,15 +7,19 @@ import re
 from desk_visit import read, TOP
 
 EXAMPLES = os.path.join(TOP, "examples")
-HOW = "eight dice, thrown one after the other in the town hall"
+HOW = (
+    "eight dice, thrown one after the other on 3 November 2026, at ten, in the town hall, once and before everybody. "
+    "The seed is the text \"2026-11-03 dice\" and the eight numbers, each with a blank before it"
+)
 
 
 class Walk:
     """An audit: its files, what is chosen, its seed, and the draws of its rounds."""
 
-    def __init__(self, place, kind, seed, rounds, cast, counted=None, limit="5", gamma="100", contest=None, seen=None, assertions=True):
+    def __init__(self, place, kind, seed, rounds, cast, counted=None, gamma="100", seen=None, further=(), plan=()):
         self.place, self.kind, self.seed, self.rounds, self.cast, self.counted = os.path.join(EXAMPLES, place), kind, seed, rounds, cast, counted
-        self.limit, self.gamma, self.contest, self.assertions = limit, gamma, contest, assertions
+        self.plan = {"limit": "5", "gamma": gamma, **dict(plan)}
+        self.further = further  # numbers of draws that the terms have, and that aren't needed
         self.seen = readings_of(seen if seen is not None else read(self.file("seen.csv"), "r"), kind == "contests")
 
     def file(self, name):
@@ -31,8 +35,8 @@ class Walk:
         yield "cards", {"cast": self.cast}, [("manifest", self.data("manifest.csv"))]
         if self.kind != "plurality":
             yield "assertions", {"budget": ""}, []
-        yield "plan", {"limit": self.limit, "gamma": self.gamma}, []
-        yield "terms", {"rounds": " ".join(map(str, self.rounds)), "how": HOW}, []
+        yield "plan", self.plan, []
+        yield "terms", {"rounds": " ".join(map(str, [*self.rounds, *self.further])), "how": HOW}, []
         yield "seed", {"seed": self.seed, "again": self.seed}, []
         for number, draws in enumerate(self.rounds, 1):
             yield f"fetch{number}", {"draws": draws}, []
@@ -60,7 +64,7 @@ def polled(place):
 
 
 WALKS = {
-    "town": lambda: Walk("town", "comparison", "2026-11-03 dice 2 6 1 4 5 5 3 1", (40, 90), 480),
+    "town": lambda: Walk("town", "comparison", "2026-11-03 dice 2 6 1 4 5 5 3 1", (40, 90), 480, further=(200,)),
     "village": lambda: Walk("village", "comparison", "2026-11-03 dice 4 6 6 1 2 4 3 4", (38,), 60, counted="counted.raire"),
     "library": lambda: Walk("library", "plurality", "2026-11-03 dice 6 2 3 3 5 1 4 2", (16, 24), 90),
     "county": lambda: Walk("county", "contests", "2026-11-03 dice 5 1 4 4 2 6 3 1", (40, 80), 360),

@@ -64,10 +64,16 @@ def rows_of(path):
     return [line.split(",") for line in read(path).splitlines()]
 
 
+def by_place(rows):
+    """The records of both rounds as a page of all their cards lists them: by batch, and then by number."""
+    return sorted(rows, key=lambda row: (row[0].partition("_")[0], int(row[0].partition("_")[2])))
+
+
 def made(tried, name, *words):
     """A page of ./raire cards, in a file of its own."""
     status, page, err = tried.run("cards", *words)
-    tried.see(f"{name} is made", status == 0 and err == "", err)
+    is_later = "--after" in words  # then standard error says which cards count again
+    tried.see(f"{name} is made", status == 0 and (is_later or "--seed=1" in words or err == ""), err)
     write(name, page)
     return os.path.abspath(name)
 
@@ -76,7 +82,7 @@ def made(tried, name, *words):
 
 def by_keyboard(tried, page, keep):
     """The town: digits, arrow keys and letters; the page is loaded again at card 20, and the browser ends at card 50."""
-    ids, rows = ["Ash", "Birch", "Cedar", "Elm"], rows_of(SEEN)
+    ids, rows = ["Ash", "Birch", "Cedar", "Elm"], by_place(rows_of(SEEN))
     for part in (rows[:50], rows[50:]):
         with browser.Browser(os.path.abspath("profile"), os.path.abspath("saved")) as opened:
             entry = Entry(opened, "saved")
@@ -94,7 +100,7 @@ def by_keyboard(tried, page, keep):
             tried.see("how many are read is told", entry.text("progress") == f"AB: {done} of {len(rows)} cards read", entry.text("progress"))
             if done == len(rows):
                 entry.press("Enter")
-                tried.see("the town's seen file, by keyboard", entry.saved("AB") == read(SEEN))
+                tried.see("the town's seen file, by keyboard", entry.saved("AB") == "".join(f"{','.join(row)}\n" for row in rows))
                 picture(opened, keep, "filled")
 
 
@@ -198,7 +204,7 @@ def by_marks(tried, keep):
         picture(opened, keep, "marks")
         entry.press("Enter", "2", "1", "Enter", "m", "Enter", "n", "Enter")
         entry.press("1", "1", "1", "1", "1", "1")
-        tried.see("no mark goes above the ballot's ranks", entry.text("alarm") == "All ranks have a mark: there are 5.", entry.text("alarm"))
+        tried.see("no mark goes above the ballot's ranks", entry.text("alarm") == "All ranks have a mark: there are 5. Take a mark away first.", entry.text("alarm"))
         entry.press("Backspace", "Backspace", "Backspace", "Backspace", "Enter", "Enter")
         wanted = "B1_1,marks,1,Ash,1,Elm,3,Birch,5,Birch\nB1_2,marks,1,Birch,2,Ash\nB1_3,missing\nB1_4,marks\nB1_5,marks,1,Ash\n"
         got = entry.saved("M_B1", "marks")
@@ -207,6 +213,26 @@ def by_marks(tried, keep):
         read_by = tried.run("convert", "marks", "marks.csv", "--ballots", BALLOTS, "--ranks=5")
         tried.see("it is read by the rules", read_by[:2] == (0, "B1_1,ballot\nB1_2,ballot,Birch,Ash\nB1_4,ballot\nB1_5,ballot,Ash\nB1_3,missing\n"), read_by)
     return page
+
+
+def each_round_apart(tried, town):
+    """Pages of two rounds, and of another seed, have nothing of each other, though one person reads all of them; the files they save have other names."""
+    entry_words = ["--entry", "--ballots", BALLOTS]
+    manifest, _, seed, _, draws = town
+    first = made(tried, "first.html", manifest, "--seed", seed, "--draws", "3", *entry_words)
+    second = made(tried, "second.html", manifest, "--seed", seed, "--draws", "6", "--after", "3", *entry_words)
+    with browser.Browser(os.path.abspath("profile"), os.path.abspath("saved")) as opened:
+        entry = Entry(opened, "saved")
+        entry.open(first, "R")
+        entry.press("1", "Enter", "2", "Enter")
+        entry.open(second, "R")
+        tried.see("a second round begins without marks", (entry.text("progress"), entry.text("told")) == ("R: 0 of 3 cards read", "nothing yet"), entry.text("progress"))
+        entry.press("3", "Enter", "n", "Enter", "4", "Enter", "Enter")
+        tried.see("its file has a name of its own", entry.saved("R_after_3") is not None and entry.saved("R_after_3").count("\n") == 3)
+        entry.open(first, "R")
+        tried.see("the first round has its marks still", entry.text("progress") == "R: 2 of 3 cards read", entry.text("progress"))
+        entry.press("2", "Enter", "Enter")
+        tried.see("and is saved with them", (entry.saved("R") or "").count("\n") == 3, entry.saved("R"))
 
 
 def keeps_nothing(tried, page):
@@ -293,6 +319,7 @@ def main():
         refusals(tried, page, keep)
         keeps_nothing(tried, page)
         same_initials(tried, page, keep)
+        each_round_apart(tried, town)
         marks = by_marks(tried, keep)
         looks(tried, {"entry": page, "entry_marks": marks, "page": made(tried, "page.html", *town, "--page"), **many(tried)}, keep)
         os.chdir(here)

@@ -24,7 +24,7 @@ sys.path.append(os.path.join(TOP, "tools", "hints"))
 import rules  # noqa: E402
 import table  # noqa: E402
 
-POINTER = "./raire help tells the commands, ./raire help COMMAND the files and options of one"
+POINTER = "./raire help lists the commands, ./raire help COMMAND the files and options of one"
 END = "What to do: docs/faults.md"
 
 HEAD = "1\nContest,9,2,Ann,Ben\n"
@@ -39,11 +39,15 @@ CHANGED = ASSERTIONS.replace
 MOST_NUMBER = 4294967295  # of an assertion file
 CLAIM = '{"kind":"NEN","loser":"Ben","margin":1,"rest":["Ann","Ben"],"winner":"Ann"}'
 PLANNED = CHANGED('"version":1', '"version":2').replace('"contest"', '"cards":4,"gamma":100,"limit":50000,"contest"').replace('{"kind"', '{"draws":null,"kind"').replace
+COVERED = CHANGED('"version":1', '"version":3').replace('"order":["Ann","Ben"],', "").replace
 MANY = json.dumps([f"c{c}" for c in range(limits.MOST_CANDIDATES + 1)])
+
+CLAIMS = json.dumps({name: json.loads(ASSERTIONS)[name] for name in ("assertions", "candidates", "contest", "winner")}, separators=(",", ":"))
+CLAIMED = CLAIMS.replace
 
 # What a ballot file is, by `tabulate`; the sentences behind the rule's cause.
 OF_BALLOTS = [
-    ("", "B1", "The file is empty; a > behind the command empties its file first"),
+    ("", "B1", "The file is empty; a > after the command empties its file first"),
     (MANIFEST, "B1", 'It begins with "batch,cards", as a manifest does'),
     (ASSERTIONS, "B1", 'It begins with "{"assertions":[{"kind":"NEN","loser":"Ben","margin":1,"rest":["Ann",..", as an assertion file does'),
     ("1;\nContest;9;2;Ann;Ben\n", "B1", 'It begins with "1;"; its semicolons have to be commas'),
@@ -52,17 +56,17 @@ OF_BALLOTS = [
     ("65\n", "B1", 'It begins with "65"'),
     ("PK\x03\x04\n", "B1", r'It begins with "PK\x03\x04"'),
     (SEEN, "B1", 'It begins with "b_1,ballot,Ann", as a file of seen cards does'),
-    ("1\nContest;9;2\n", "B2", '"Contest;9;2" stands where "Contest" has to; its semicolons have to be commas. Record 2, line 2: Contest;9;2'),
-    ("1\ncontest,9,2,Ann,Ben\n", "B2", '"contest" stands where "Contest" has to. Record 2, line 2: contest,9,2,Ann,Ben'),
+    ("1\nContest;9;2\n", "B2", '"Contest;9;2" is in the place of "Contest"; its semicolons have to be commas. Record 2, line 2: Contest;9;2'),
+    ("1\ncontest,9,2,Ann,Ben\n", "B2", '"contest" is in the place of "Contest". Record 2, line 2: contest,9,2,Ann,Ben'),
     ("2\n\nContest,9,2,Ann,Ben\n", "B2", "The file ends before record 3"),
-    ("2\nContest,9,2,Ann,Ben\nContest,9,2,Ann,Ben\n", "B2", '"9" stood before. Record 3, line 3: Contest,9,2,Ann,Ben'),
+    ("2\nContest,9,2,Ann,Ben\nContest,9,2,Ann,Ben\n", "B2", '"9" came before. Record 3, line 3: Contest,9,2,Ann,Ben'),
     ("1\nContest,9,3,Ann,Ben\n", "B3", "It says 3 candidates, and 2 ids follow. Record 2, line 2: Contest,9,3,Ann,Ben"),
     ("1\nContest,9,2,Ann\n", "B3", "It says 2 candidates, and 1 id follows. Record 2, line 2: Contest,9,2,Ann"),
     ("1\nContest,9,1,Ann\n", "B3", "It says 1 candidate. Record 2, line 2: Contest,9,1,Ann"),
     ("1\nContest,9,two,Ann,Ben\n", "B3", '"two" is no number of candidates. Record 2, line 2: Contest,9,two,Ann,Ben'),
     ("1\nContest,9,2,Zoë,Ben\n", "B4", '"Zoë" is no id; "Zoe" would be one. Record 2, line 2: Contest,9,2,Zoë,Ben'),
     ('1\nContest,9,2,"Lee, Ann",Ben\n', "B4", '"Lee, Ann" is no id; "Lee Ann" would be one. Record 2, line 2: Contest,9,2,"Lee, Ann",Ben'),
-    ("1\nContest,9,2,Ann,Ann\n", "B4", '"Ann" stands twice. Record 2, line 2: Contest,9,2,Ann,Ann'),
+    ("1\nContest,9,2,Ann,Ann\n", "B4", '"Ann" is repeated. Record 2, line 2: Contest,9,2,Ann,Ann'),
     (HEAD + "9,,Ann\n", "B4", "The id is empty. Record 3, line 3: 9,,Ann"),
     (HEAD + f"9,{'b' * 65},Ann\n", "B4", f'"{"b" * 65}" has 65 bytes, and 64 are the most. Record 3, line 3: 9,{"b" * 65},Ann'),
     (HEAD + "9,b\x01,Ann\n", "B4", r'"b\x01" is no id. Record 3, line 3: 9,b\x01,Ann'),
@@ -78,22 +82,22 @@ OF_BALLOTS = [
     (HEAD + "9,b_1,Ben,ANN\n", "B8", '"ANN" is no candidate; the contest has "Ann". Record 3, line 3: 9,b_1,Ben,ANN'),
     (HEAD + "9,b_1,Ben\r9,b_2,\x1b[2J\r", "B8", r'"\x1b[2J" is no candidate; the contest has "Ann", "Ben". Record 4, line 4: 9,b_2,\x1b[2J'),
     ("1\nContest,9,2,A\\x01n,Ben\n9,b_1,A\x01n\n", "B8", r'"A\x01n" is no candidate; the contest has "A\x01n", "Ben". Record 3, line 3: 9,b_1,A\x01n'),
-    (HEAD + "9,b_1,Ben\n\n9,b_1,Ann\n", "B9", '"b_1" stood in record 3, line 3. Record 4, line 5: 9,b_1,Ann'),
+    (HEAD + "9,b_1,Ben\n\n9,b_1,Ann\n", "B9", '"b_1" is also in record 3, line 3. Record 4, line 5: 9,b_1,Ann'),
 ]
 # A manifest, by `sample`.
 OF_MANIFEST = [
     ("Batch,Cards\nb,3\n", "M1", 'It begins with "Batch,Cards"; its letters have to be small'),
     ("batch,number\nb,3\n", "M1", 'It begins with "batch,number"'),
-    ("batch,cards,\nb,3,\n", "M1", 'It begins with "batch,cards,"; a comma too many stands behind cards'),
-    ("Batch,cards, ,\nb,3\n", "M1", 'It begins with "Batch,cards, ,"; its letters have to be small; 2 commas too many stand behind cards'),
-    ("batch,cards,place\nb,3,hall\n", "M1", 'It begins with "batch,cards,place"; "place" stands behind them'),
+    ("batch,cards,\nb,3,\n", "M1", 'It begins with "batch,cards,"; there is a comma too many after cards'),
+    ("Batch,cards, ,\nb,3\n", "M1", 'It begins with "Batch,cards, ,"; its letters have to be small; there are 2 commas too many after cards'),
+    ("batch,cards,place\nb,3,hall\n", "M1", 'It begins with "batch,cards,place"; "place" comes after them'),
     (BALLOTS, "M1", 'It begins with "1", as a ballot file does'),
     ("batch;cards\nb;3\n", "M1", 'It begins with "batch;cards"; its semicolons have to be commas'),
     ("batch,cards\nb;3\n", "M2", "It has 1 field; its semicolons have to be commas. Record 2, line 2: b;3"),
     ("batch,cards\nb,1,200\n", "M2", "It has 3 fields; without commas the number would be 1200. Record 2, line 2: b,1,200"),
     ('batch,cards\n"b,3\nc,4\n', "M2", 'It has 1 field. A quote in line 2 isn\'t closed in that line. Record 2, line 2: "b,3\\nc,4'),
     ("batch,cards\nb,1.200\n", "M3", '"1.200" is no number of cards; 1200 would be one. Record 2, line 2: b,1.200'),
-    ("batch,cards\nb,1\n\nb,2\n", "M4", '"b" stood in record 2, line 2. Record 3, line 4: b,2'),
+    ("batch,cards\nb,1\n\nb,2\n", "M4", '"b" is also in record 2, line 2. Record 3, line 4: b,2'),
     (f"batch,cards\n{'b' * 57},2\n", "M4", f'"{"b" * 57}" has 57 bytes, and 56 are the most. Record 2, line 2: {"b" * 57},2'),
     (f"batch,cards\n{'b' * 65},2\n", "M4", f'"{"b" * 65}" has 65 bytes, and 56 are the most. Record 2, line 2: {"b" * 65},2'),
     ("batch,cards\nZoë,2\n", "M4", '"Zoë" is no id; "Zoe" would be one. Record 2, line 2: Zoë,2'),
@@ -105,28 +109,34 @@ OF_ASSERTIONS = [
     (BALLOTS, "F1", 'It begins with "1", as a ballot file does'),
     (ASSERTIONS[:60], "F1", "The file ends before the object does"),
     (CHANGED('"margin":1,"rest"', '"rest"'), "F2", 'It lacks "margin". Assertion 1: {"kind":"NEN","loser":"Ben","rest":["Ann","Ben"],"winner":"Ann"}'),
-    (CHANGED('"winner":"Ann"}\n', '"winner":5}\n'), "F2", 'Its "winner" is 5, and a text in quotes is looked for'),
-    (CHANGED('"order":["Ann","Ben"]', '"order":["Ann",5]'), "F2", 'Its "order" is ["Ann", 5], and a list of texts in quotes is looked for'),
-    *[(CHANGED(CLAIM, changed), "F2", f"{told} is looked for. Assertion 1: {changed}") for changed, told in [
-        (CLAIM.replace('"NEN"', '"nen"'), 'Its "kind" is "nen", and "NEB" or "NEN"'),
-        (CLAIM.replace('"loser":"Ben"', '"loser":5'), 'Its "loser" is 5, and a text in quotes'),
-        (CLAIM.replace('"margin":1', '"margin":"1"'), f'Its "margin" is "1", and 0 to {MOST_NUMBER}, in digits alone,'),
-        (CLAIM.replace('["Ann","Ben"]', '"Ann"'), 'Its "rest" is "Ann", and a list of texts in quotes'),
+    (CHANGED('"winner":"Ann"}\n', '"winner":5}\n'), "F2", 'Its "winner" is 5; it has to be a text in quotes'),
+    (CHANGED('"order":["Ann","Ben"]', '"order":["Ann",5]'), "F2", 'Its "order" is ["Ann", 5]; it has to be a list of texts in quotes'),
+    *[(CHANGED(CLAIM, changed), "F2", f"{told}. Assertion 1: {changed}") for changed, told in [
+        (CLAIM.replace('"NEN"', '"nen"'), 'Its "kind" is "nen"; it has to be "NEB" or "NEN"'),
+        (CLAIM.replace('"loser":"Ben"', '"loser":5'), 'Its "loser" is 5; it has to be a text in quotes'),
+        (CLAIM.replace('"margin":1', '"margin":"1"'), f'Its "margin" is "1"; it has to be 0 to {MOST_NUMBER}, in digits alone'),
+        (CLAIM.replace('["Ann","Ben"]', '"Ann"'), 'Its "rest" is "Ann"; it has to be a list of texts in quotes'),
     ]],
-    (CHANGED('"version":1', '"version":3'), "F3", "It says version 3"),
+    (CHANGED('"version":1', '"version":4'), "F3", "It says version 4"),
+    (CHANGED('"version":1', '"version":3'), "F2", "It says version 3, which has no order"),
+    (COVERED('"margin":1,"records"', '"records"'), "F2", 'It lacks "margin"'),
+    (COVERED('"contest"', '"cards":4,"contest"'), "F2", 'It lacks "gamma", "limit"'),
+    (COVERED('"contest"', '"cards":4,"gamma":100,"limit":50000,"contest"'), "F2", f'It lacks "draws". Assertion 1: {CLAIM}'),
+    (COVERED('{"kind"', '{"draws":4,"kind"'), "F2", f'It has draws, and the file has no cards, gamma and limit for them. Assertion 1: {{"draws":4,{CLAIM[1:]}'),
+    (COVERED('"winner":"Ann"}\n', '"winner":"ann"}\n'), "F4", '"ann" is no candidate; the file has "Ann"'),
     (CHANGED('"loser":"Ben"', '"loser":"ben"'), "F4", '"ben" is no candidate; the file has "Ben". Assertion 1: {"kind":"NEN","loser":"ben","margin":1,"rest":["Ann","Ben"],"winner":"Ann"}'),
     (CHANGED('"rest":["Ann","Ben"]', '"rest":["Ann"]'), "F5", 'The rest lacks "Ben". Assertion 1: {"kind":"NEN","loser":"Ben","margin":1,"rest":["Ann"],"winner":"Ann"}'),
     (CHANGED('"rest":["Ann","Ben"]', '"rest":["Ann","Ann","Ben"]'), "F5",
-     '"Ann" stands twice in the rest. Assertion 1: {"kind":"NEN","loser":"Ben","margin":1,"rest":["Ann","Ann","Ben"],"winner":"Ann"}'),
+     '"Ann" is repeated in the rest. Assertion 1: {"kind":"NEN","loser":"Ben","margin":1,"rest":["Ann","Ann","Ben"],"winner":"Ann"}'),
     (CHANGED('"loser":"Ben"', '"loser":"Ann"'), "F4",
      '"Ann" is its winner and its loser. Assertion 1: {"kind":"NEN","loser":"Ann","margin":1,"rest":["Ann","Ben"],"winner":"Ann"}'),
     (CHANGED('"candidates":["Ann","Ben"]', f'"candidates":{MANY}'), "F4", f"It has {limits.MOST_CANDIDATES + 1} candidates"),
     (CHANGED('"candidates":["Ann","Ben"]', '"candidates":["Ann"]'), "F4", "It has 1 candidate"),
-    (CHANGED('"candidates":["Ann","Ben"]', '"candidates":["Ann","Ben","Ann"]'), "F4", '"Ann" stands twice among the candidates'),
+    (CHANGED('"candidates":["Ann","Ben"]', '"candidates":["Ann","Ben","Ann"]'), "F4", '"Ann" is repeated among the candidates'),
     (CHANGED('"candidates":["Ann","Ben"]', '"candidates":["Ann",""]'), "F4", "The id is empty"),
     (CHANGED('"order":["Ann","Ben"]', '"order":["Ann","ben"]'), "F4", '"ben" is no candidate; the file has "Ben"'),
     (CHANGED('"order":["Ann","Ben"]', '"order":["Ann"]'), "F5", 'The order lacks "Ben"'),
-    (CHANGED('"order":["Ann","Ben"]', '"order":["Ann","Ann"]'), "F5", '"Ann" stands twice in the order'),
+    (CHANGED('"order":["Ann","Ben"]', '"order":["Ann","Ann"]'), "F5", '"Ann" is repeated in the order'),
     (CHANGED('"margin":1,"order"', '"margin":4,"order"'), "F6", "Its margin 4 is above the 3 records"),
     (CHANGED('"margin":1,"order"', '"margin":0,"order"'), "F6", "Its margin is 0"),
     (CHANGED('"margin":1,"rest"', '"margin":4,"rest"'), "F6",
@@ -134,22 +144,39 @@ OF_ASSERTIONS = [
     (CHANGED('"records":3', '"records":0'), "F6", "It says 0 records"),
     *[(PLANNED(*change), rule, told) for change, rule, told in [
         (('"cards":4,', ""), "F2", 'It lacks "cards"'), (('"draws":null,', ""), "F2", f'It lacks "draws". Assertion 1: {CLAIM}'),
-        (('"draws":null,', '"draws":"4",'), "F2", f'Its draws are "4", and null or 1 to 100000, in digits alone, is looked for. Assertion 1: {{"draws":"4",{CLAIM[1:]}'),
+        (('"draws":null,', '"draws":"4",'), "F2", f'Its draws are "4"; they have to be null or 1 to 100000, in digits alone. Assertion 1: {{"draws":"4",{CLAIM[1:]}'),
         (('"draws":null,', '"draws":4294967296,'), "F2",
-         f'Its draws are 4294967296, and null or 1 to 100000, in digits alone, is looked for. Assertion 1: {{"draws":4294967296,{CLAIM[1:]}'),
-        (('"cards":4', '"cards":4.0'), "F2", f'Its "cards" is 4.0, and 0 to {MOST_NUMBER}, in digits alone, is looked for'),
-        (('"limit":50000', '"limit":null'), "F2", f'Its "limit" is null, and 0 to {MOST_NUMBER}, in digits alone, is looked for'),
-        (('"version":2', '"version":5000000000'), "F2", f'Its "version" is 5000000000, and 0 to {MOST_NUMBER}, in digits alone, is looked for'),
-        (('"version":2', '"version":"2"'), "F2", f'Its "version" is "2", and 0 to {MOST_NUMBER}, in digits alone, is looked for'),
+         f'Its draws are 4294967296; they have to be null or 1 to 100000, in digits alone. Assertion 1: {{"draws":4294967296,{CLAIM[1:]}'),
+        (('"cards":4', '"cards":4.0'), "F2", f'Its "cards" is 4.0; it has to be 0 to {MOST_NUMBER}, in digits alone'),
+        (('"limit":50000', '"limit":null'), "F2", f'Its "limit" is null; it has to be 0 to {MOST_NUMBER}, in digits alone'),
+        (('"version":2', '"version":5000000000'), "F2", f'Its "version" is 5000000000; it has to be 0 to {MOST_NUMBER}, in digits alone'),
+        (('"version":2', '"version":"2"'), "F2", f'Its "version" is "2"; it has to be 0 to {MOST_NUMBER}, in digits alone'),
         (('"draws":null,', '"draws":0,'), "F6", f'Its draws are 0. Assertion 1: {{"draws":0,{CLAIM[1:]}'),
         (('"draws":null,', '"draws":100001,'), "F6", f'Its draws are 100001. Assertion 1: {{"draws":100001,{CLAIM[1:]}'),
         (('"cards":4', '"cards":2'), "F6", "It says 2 cards for 3 records"), (('"cards":4', '"cards":10000001'), "F6", "It says 10000001 cards"),
-        (('"limit":50000', '"limit":0'), "F6", "Its limit is 0, and 1 to 999999 is looked for"),
-        (('"gamma":100', '"gamma":501'), "F6", "Its gamma is 501, and 1 to 500 is looked for"),
+        (('"limit":50000', '"limit":0'), "F6", "Its limit is 0; it has to be 1 to 999999"),
+        (('"gamma":100', '"gamma":501'), "F6", "Its gamma is 501; it has to be 1 to 500"),
     ]],
     (CHANGED('"records":3', '"records":5'), "F7", "The assertions are about 5 ballots, and the manifest has 4 cards"),
 ]
-OF_CONTESTS = 'The contest\'s id stands between the card and "{}": such a file is for ./raire contests alone'
+# A claims file, by `adopt` of the ballots.
+OF_CLAIMS = [
+    (BALLOTS, "C1", 'It begins with "1", as a ballot file does'),
+    (CLAIMS[:60], "C1", "The file ends before the object does"),
+    (CLAIMED(',"winner":"Ann"}]', "}]"), "C2", 'It lacks "winner". Assertion 1: {"kind":"NEN","loser":"Ben","margin":1,"rest":["Ann","Ben"]}'),
+    (CLAIMED('"contest":"9"', '"contest":9'), "C2", 'Its "contest" is 9; it has to be a text in quotes'),
+    (CLAIMED('"contest":"9"', '"contest":"8"'), "C3", 'It is about "8", and the ballots are about "9"'),
+    (CLAIMED('"candidates":["Ann","Ben"]', '"candidates":["Ann","ben"]'), "C4", '"ben" is no candidate; the contest has "Ben"'),
+    (CLAIMED('"candidates":["Ann","Ben"]', '"candidates":["Ann","Ben","Ann"]'), "C4", '"Ann" is repeated among the candidates'),
+    (CLAIMED('"candidates":["Ann","Ben"]', '"candidates":["Ann"]'), "C4", 'The candidates lack "Ben"'),
+    (CLAIMED('"loser":"Ben"', '"loser":"ben"'), "C4",
+     '"ben" is no candidate; the contest has "Ben". Assertion 1: {"kind":"NEN","loser":"ben","margin":1,"rest":["Ann","Ben"],"winner":"Ann"}'),
+    (CLAIMED('"loser":"Ben"', '"loser":"Ann"'), "C4",
+     '"Ann" is its winner and its loser. Assertion 1: {"kind":"NEN","loser":"Ann","margin":1,"rest":["Ann","Ben"],"winner":"Ann"}'),
+    (CLAIMED('"rest":["Ann","Ben"]', '"rest":["Ann"]'), "C5",
+     'The rest lacks "Ben". Assertion 1: {"kind":"NEN","loser":"Ben","margin":1,"rest":["Ann"],"winner":"Ann"}'),
+]
+OF_CONTESTS = 'The contest\'s id is between the card and "{}": only ./raire contests reads such a file'
 # Seen cards, by `audit` and by `poll` with four draws, of cards 1, 2, 3 and 4 (seed 10).
 OF_SEEN = [
     (BALLOTS, "V1", 'It begins with "1", as a ballot file does'),
@@ -158,11 +185,11 @@ OF_SEEN = [
     ("b_1,Ann,ballots\n", "V1", '"Ann" is no word of a seen card; they are "ballot", "missing". Record 1, line 1: b_1,Ann,ballots'),
     ("b_1,9,ballot,Ann\n", "V1", f'{OF_CONTESTS.format("ballot")}. Record 1, line 1: b_1,9,ballot,Ann'),
     (SEEN + "b_2,ballots,missing\n", "V1", f'{OF_CONTESTS.format("missing")}. Record 2, line 2: b_2,ballots,missing'),
-    ("b_1,missing,Ann\n", "V1", '"Ann" stands behind missing. Record 1, line 1: b_1,missing,Ann'),
+    ("b_1,missing,Ann\n", "V1", '"Ann" comes after missing. Record 1, line 1: b_1,missing,Ann'),
     ("b_01,ballot\n", "V2", '"b_01" has a zero in front of its number; there is "b_1". Record 1, line 1: b_01,ballot'),
     ("B_1,ballot\n", "V2", '"B" is no batch; the manifest has "b". Record 1, line 1: B_1,ballot'),
     ("b_9,ballot\n", "V2", '"b" has 4 cards, and "9" is none of their numbers. Record 1, line 1: b_9,ballot'),
-    (SEEN + "\n" + SEEN, "V3", '"b_1" stood in record 1, line 1. Record 2, line 3: b_1,ballot,Ann'),
+    (SEEN + "\n" + SEEN, "V3", '"b_1" is also in record 1, line 1. Record 2, line 3: b_1,ballot,Ann'),
     ("b_1,ballot,Anne\n", "V5", '"Anne" is no candidate; the contest has "Ann". Record 1, line 1: b_1,ballot,Anne'),
 ]
 # Seen cards of two contests, by `contests` with four draws, of cards 1, 2, 3 and 4 (seed 10); where "10" is tied.
@@ -170,20 +197,20 @@ TWO = "3\nContest,9,2,Ann,Ben\nContest,10,2,Cy,Di\nContest,11,2,Ed,Flo\n9,b_1,An
 OF_ALL_SEEN = [
     (BALLOTS, "V1", 'It begins with "1", as a ballot file does'),
     (SEEN, "V1", 'The contest\'s id is missing between the card and "ballot". Record 1, line 1: b_1,ballot,Ann'),
-    ("b_1,9\n", "V1", "It has 2 fields, and 3 are wanted at least. Record 1, line 1: b_1,9"),
-    ("b_1;9;ballot\n", "V1", "It has 1 field, and 3 are wanted at least; its semicolons have to be commas. Record 1, line 1: b_1;9;ballot"),
+    ("b_1,9\n", "V1", "It has 2 fields; it needs at least 3. Record 1, line 1: b_1,9"),
+    ("b_1;9;ballot\n", "V1", "It has 1 field; it needs at least 3; its semicolons have to be commas. Record 1, line 1: b_1;9;ballot"),
     ("b_1,9,ballots,Ann\n", "V1", '"ballots" is no word of a seen card; nearly right is "ballot". Record 1, line 1: b_1,9,ballots,Ann'),
-    ("b_1,9,missing,Ann\n", "V1", '"Ann" stands behind missing. Record 1, line 1: b_1,9,missing,Ann'),
+    ("b_1,9,missing,Ann\n", "V1", '"Ann" comes after missing. Record 1, line 1: b_1,9,missing,Ann'),
     ("b_01,9,ballot\n", "V2", '"b_01" has a zero in front of its number; there is "b_1". Record 1, line 1: b_01,9,ballot'),
     ("b_1,90,ballot\n", "V6", '"90" is no contest; the ballot file has "9", "10", "11". Record 1, line 1: b_1,90,ballot'),
     ("b_1,Mayor,ballot\n", "V6", '"Mayor" is no contest; the ballot file has "9", "10", "11". Record 1, line 1: b_1,Mayor,ballot'),
-    ("b_1,9,ballot\n\nb_1,10,ballot\nb_1,9,ballot\n", "V3", '"b_1" stood with "9" in record 1, line 1. Record 3, line 4: b_1,9,ballot'),
+    ("b_1,9,ballot\n\nb_1,10,ballot\nb_1,9,ballot\n", "V3", '"b_1" is also with "9" in record 1, line 1. Record 3, line 4: b_1,9,ballot'),
     ("b_1,11,ballot,Ann\n", "V5", '"Ann" is no candidate; the contest has "Ed", "Flo". Record 1, line 1: b_1,11,ballot,Ann'),
 ]
 # Words; which of them is wrong.
 OF_WORDS = [
     (["serch", "x"], '"serch" is no command; nearly right is "search"'),
-    (["x"], '"x" is no command; they are audit, check, contests, open, plan, plurality, poll, report, sample, search, tabulate, trial, trim'),
+    (["x"], '"x" is no command; they are adopt, audit, check, contests, open, plan, plurality, poll, report, sample, search, tabulate, trial, trim'),
     (["shwo", "x"], '"shwo" is no command; nearly right is "show"'),
     (["audit", "--draw", "5"], '"--draw" is no option of audit; nearly right is "--draws"'),
     (["search", "-x", "b"], '"-x" is no option of search; it has --contest, --workers, --nodes, --sets, --floor, --cards, --limit, --gamma'),
@@ -192,43 +219,62 @@ OF_WORDS = [
     (["report", "s", "-h"], '"-h" is no option of report; its page: ./raire help report'),
     (["search", "-"], '"-" is no file; standard input is the file /dev/stdin'),
     (["tabulate", "-x.raire"], '"-x.raire" is no option of tabulate; it has --contest, --nodes; the file of this name is "./-x.raire"'),
-    (["report", "my", "session.json"], '"session.json" is a word too many: report takes SESSION; a name with blanks wants quotes: "my session.json"'),
-    (["check", "my", "session.json", "a"], '"a" is a word too many: check takes BALLOTS ASSERTIONS; a name with blanks wants quotes: "my session.json"'),
+    (["report", "my", "session.json"], '"session.json" is a word too many: report takes SESSION; a name with blanks needs quotes: "my session.json"'),
+    (["check", "my", "session.json", "a"], '"a" is a word too many: check takes BALLOTS ASSERTIONS; a name with blanks needs quotes: "my session.json"'),
     (["report", "my", "other.json"], '"other.json" is a word too many: report takes SESSION'),
     (["search", "b", "--gamma=100"], "search takes --gamma only together with --cards"),
     (["search", "b", "--cards=9", "--limit", "0.05"], '"0.05" is no value of --limit, which is 1 to 999999 millionths, such as 50000 for 5 percent'),
     (["search", "b", "--cards=9", "--gamma", "501"], '"501" is no value of --gamma, which is 1 to 500 thousandths'),
     (["check", "--workers=5", "b"], '"--workers=5" is no option of check; it has --contest, --nodes, --sets'),
     (["report", "--nodes=5", "b"], '"--nodes=5" is no option of report; it has none'),
-    (["search", "b", "--nodes", "1", "--nodes", "1"], "--nodes stands twice"),
+    (["search", "b", "--nodes", "1", "--nodes", "1"], "--nodes is given twice"),
     (["search", "b", "--nodes"], "--nodes has no value"),
-    (["search", "b", "--nodes", "1", "--sets", "1"], "--sets stands in place of --nodes, and both are given"),
+    (["search", "b", "--nodes", "1", "--sets", "1"], "--sets takes the place of --nodes, and both are given"),
+    (["search", "b", "--fewest", "--nodes", "1"], "--nodes is no option of a line with --fewest"),
+    (["search", "b", "--nodes=1", "--fewest"], "--nodes is no option of a line with --fewest"),
+    (["search", "b", "--fewest=9"], "--fewest takes no value"),
+    (["search", "b", "--fewest", "9"], '"9" is a word too many: search takes BALLOTS'),
+    (["search", "b", "--fewest", "--sets", "0"], '"0" is no value of --sets, which is 1 to 1048576'),
+    (["search", "b", "--fewes"], '"--fewes" is no option of search; nearly right is "--fewest"'),
     (["check", "b", "a", "--sets", "1048577"], '"1048577" is no value of --sets, which is 1 to 1048576'),
     (["audit", "s", "b", "m", "a", "c", "--draws=1", "--set=5"], '"--set=5" is no option of audit; nearly right is "--sets"'),
     (["tabulate", "b", "--sets=5"], '"--sets=5" is no option of tabulate; it has --contest, --nodes'),
-    (["sample", "b", "--seed", "-1", "--draws", "1"], '--seed has no value; "-1" begins with -, so it is written behind --seed='),
+    (["sample", "b", "--seed", "-1", "--draws", "1"], '--seed has no value; "-1" begins with -, so write it after --seed='),
     (["search", "b", "--workers", "0"], '"0" is no value of --workers, which is 1 to 8'),
     (["sample", "b", "--seed", "2", "6", "1", "--draws", "1"],
-     '"6" is a word too many: sample takes MANIFEST; a seed of several words wants quotes, as in --seed "2 6 1 4"'),
-    (["check", "b"], "check takes BALLOTS ASSERTIONS, and 1 of these stands here"),
-    (["check"], "check takes BALLOTS ASSERTIONS, and none of these stands here"),
-    (["sample", "b", "--draws", "1"], "sample wants --seed"),
+     '"6" is a word too many: sample takes MANIFEST; a seed of several words needs quotes, as in --seed "2 6 1 4"'),
+    (["check", "b"], "check takes BALLOTS ASSERTIONS, and 1 of these is here"),
+    (["check"], "check takes BALLOTS ASSERTIONS, and none of these is here"),
+    (["sample", "b", "--draws", "1"], "sample needs --seed"),
     (["search", ""], "a file has no name"),
-    (["poll", "m", "a", "s", "--draws", "1"], "poll wants --seed"),
-    (["poll", "m", "a", "--seed", "1", "--draws", "1"], "poll takes MANIFEST ASSERTIONS SEEN, and 2 of these stand here"),
+    (["poll", "m", "a", "s", "--draws", "1"], "poll needs --seed"),
+    (["poll", "m", "a", "--seed", "1", "--draws", "1"], "poll takes MANIFEST ASSERTIONS SEEN, and 2 of these are here"),
     (["poll", "m", "a", "s", "--seed=1", "--draws=1", "--contest=1"],
      '"--contest=1" is no option of poll; it has --seed, --draws, --limit, --gamma, --nodes'),
-    (["contests", "b", "m", "s", "--seed=1"], "contests wants --draws"),
-    (["contests", "b", "m", "--seed=1", "--draws=1"], "contests takes BALLOTS MANIFEST SEEN, and 2 of these stand here"),
+    (["poll", "m", "a", "s", "--seed=1", "--draws=1", "--gamma=501"],
+     '"501" is no value of --gamma, which is 1 to 500 thousandths; a line with --each may have it'),
+    (["poll", "m", "a", "s", "--seed=1", "--draws=1", "--gamma=best"],
+     '"best" is no value of --gamma, which is 1 to 500 thousandths; a line with --each may have it'),
+    (["poll", "m", "a", "s", "--seed=1", "--draws=1", "--gamma=beste"], '"beste" is no value of --gamma, which is 1 to 500 thousandths'),
+    (["poll", "m", "a", "s", "--seed=1", "--draws=1", "--each", "--gamma=1000001"],
+     '"1000001" is no value of --gamma, which is 1 to 1000000 thousandths or best'),
+    (["poll", "m", "a", "s", "--seed=1", "--draws=1", "--each=1"], "--each takes no value"),
+    (["poll", "m", "a", "s", "--seed=1", "--draws=1", "--each", "--each"], "--each is given twice"),
+    (["poll", "m", "a", "s", "--each", "--draws=1"], "poll needs --seed"),
+    (["plan", "m", "a", "--gamma=best"], '"best" is no value of --gamma, which is 1 to 500 thousandths; a line with --poll may have it'),
+    (["plan", "m", "a", "--gamma=501"], '"501" is no value of --gamma, which is 1 to 500 thousandths; a line with --poll may have it'),
+    (["plan", "m", "a", "--poll=1"], "--poll takes no value"),
+    (["contests", "b", "m", "s", "--seed=1"], "contests needs --draws"),
+    (["contests", "b", "m", "--seed=1", "--draws=1"], "contests takes BALLOTS MANIFEST SEEN, and 2 of these are here"),
     (["contests", "b", "m", "s", "--seed=1", "--draws=1", "--contest=1"],
      '"--contest=1" is no option of contests; it has --seed, --draws, --limit, --gamma, --workers, --nodes'),
     (["contest", "b"], '"contest" is no command; nearly right is "contests"'),
-    (["plurality", "b", "m"], "plurality wants --seed"),
-    (["plurality", "b", "--seed=1"], "plurality takes BALLOTS MANIFEST, and 1 of these stands here"),
+    (["plurality", "b", "m"], "plurality needs --seed"),
+    (["plurality", "b", "--seed=1"], "plurality takes BALLOTS MANIFEST, and 1 of these is here"),
     (["plurality", "b", "m", "--seed", "1", "--draws", "1"],
      '"--draws" is no option of plurality; it has --seed, --contest, --limit, --gamma'),
-    (["plurality", "s", "b", "m", "--draws", "1"], "plurality takes SESSION BALLOTS MANIFEST SEEN, and 3 of these stand here"),
-    (["plurality", "s", "b", "m", "v"], "plurality wants --draws"),
+    (["plurality", "s", "b", "m", "--draws", "1"], "plurality takes SESSION BALLOTS MANIFEST SEEN, and 3 of these are here"),
+    (["plurality", "s", "b", "m", "v"], "plurality needs --draws"),
     (["plurality", "s", "b", "m", "v", "--draws", "0"], '"0" is no value of --draws, which is 1 to 100000'),
 ]
 
@@ -297,6 +343,8 @@ def files_are_told(tried):
         tried.breaks("broken.csv", text, rule, told, "sample", "broken.csv", "--seed=1", "--draws=1")
     for text, rule, told in OF_ASSERTIONS:
         tried.breaks("broken.json", text, rule, told, "plan", "manifest.csv", "broken.json")
+    for text, rule, told in OF_CLAIMS:
+        tried.breaks("broken.json", text, rule, told, "adopt", "ballots.raire", "broken.json")
     opens = ["manifest.csv", "assertions.json", "--seed=10"]
     tried.breaks("far.raire", HEAD + "9,c_1,Ann\n", "M7", '"c" is no batch; the manifest has "b". Record 3, line 3: 9,c_1,Ann', "open", "far.raire", *opens)
 
@@ -313,8 +361,14 @@ def audits_are_told(tried):
     left = [card for card in cards if card != "b_1"]
     told = f"Not read yet ({len(left)} of the {len(cards)} cards that are drawn): {', '.join(left)}"
     tried.see("several cards are unread", len(left) > 1)
+    told = "Most drawn cards aren't read. If they should be, the seed or the manifest is another one. The seed is " + '"10". ' + told
+    tried.see("most cards are unread", 2 * len(left) > len(cards))
     tried.breaks("seen.csv", SEEN, "V4", told, "audit", "open.json", *files, "seen.csv", "--draws=9")
     tried.breaks("seen.csv", SEEN, "V4", told, "poll", *files[1:], "seen.csv", "--seed=10", "--draws=9")
+    most = "".join(f"{card},ballot\n" for card in cards if card != left[0])
+    told = f"Not read yet (1 of the {len(cards)} cards that are drawn): {left[0]}"
+    tried.breaks("seen.csv", most, "V4", told, "audit", "open.json", *files, "seen.csv", "--draws=9")
+    blanks_are_shown(tried, files)
     swapped = ["audit", "open.json", "manifest.csv", "ballots.raire", "assertions.json", "seen.csv", "--draws=9"]
     tried.says(swapped, f'S2: {table.causes()["S2"]}. "ballots.raire" has the first digest; see the order of the files. {END}')
     write("changed.json", session.decode().replace('"contest":"9"', '"contest":"8"'))
@@ -324,7 +378,18 @@ def audits_are_told(tried):
     write("other.json", ASSERTIONS)
     tried.says(["report", "other.json"], f"S1: {table.causes()['S1']}. It is an assertion file. {END}")
     write("again.json", "")
-    tried.says(["report", "again.json"], f"S1: {table.causes()['S1']}. The file is empty; a > behind the command empties its file first. {END}")
+    tried.says(["report", "again.json"], f"S1: {table.causes()['S1']}. The file is empty; a > after the command empties its file first. {END}")
+
+
+def blanks_are_shown(tried, files):
+    """A seed with other blanks draws other cards: where most of them aren't read, its blanks are shown."""
+    write("seen.csv", "")
+    words = ["poll", *files[1:], "seen.csv", "--seed=dice  6 1", "--draws=1"]
+    blanks, note = '"dice␣␣6␣1", where each ␣ is a blank', "raire: the seed has two blanks in a row: "
+    told = tried.ran(words)[2]
+    tried.see("the blanks of a seed are shown", f"The seed is {blanks}. Not read yet (1 of the 1 cards" in told and note not in told, told)
+    told = tried.ran(words, env={**os.environ, "RAIRE_QUIET": ""})[2]
+    tried.see("and are told after a refusal", f"{note}{blanks}\n" in told and "characters" not in told, told)
 
 
 def contests_are_told(tried):
@@ -335,12 +400,13 @@ def contests_are_told(tried):
         tried.breaks("seen.csv", text, rule, told, *words)
     text = "".join(f"{card},{name},ballot\n" for card in drawn for name in (9, 11) if (card, name) != (drawn[-1], 11))
     tried.breaks("seen.csv", text, "V4", f'Not read yet for "11" (1 of the {len(drawn)} cards that are drawn): {drawn[-1]}', *words)
-    unread, none = f"({len(drawn)} of the {len(drawn)} cards that are drawn): {', '.join(drawn)}", "A contest that is tied wants none"
+    unread, none = f"({len(drawn)} of the {len(drawn)} cards that are drawn): {', '.join(drawn)}", "A tied contest needs none"
     recorded = {tuple(line.split(",")[:2]) for line in TWO.splitlines()}
     bare = [f"{card},{name},ballot" for name in ("9", "10", "11") for card in drawn if (name, card) not in recorded]
     apart = f"{len(bare)} of these have no record in the ballot file: if the card doesn't have the contest, write {bare[0]}"
     tried.see("some cards have no record of a contest", len(bare) > 1)
-    tried.breaks("seen.csv", "", "V4", ". ".join([*(f'Not read yet for "{name}" {unread}' for name in (9, 10, 11)), none, apart]), *words)
+    other = "Most drawn cards aren't read. If they should be, the seed or the manifest is another one. The seed is " + '"10"'
+    tried.breaks("seen.csv", "", "V4", ". ".join([other, *(f'Not read yet for "{name}" {unread}' for name in (9, 10, 11)), none, apart]), *words)
     write("far.raire", TWO + "11,c_1,Ed\n")
     write("seen.csv", "")
     tried.breaks("far.raire", TWO + "11,c_1,Ed\n", "M7", '"c" is no batch; the manifest has "b". Record 7, line 7: 11,c_1,Ed', "contests", "far.raire", *words[2:])
@@ -360,9 +426,9 @@ def pluralities_are_told(tried):
     told = f'B5: {table.causes()["B5, of a session"]}. The session is of contest "8", and the file has "9". {END}'
     tried.says(["plurality", "changed.json", *files, "seen.csv", "--draws=4"], told)
     head = f"S2: {table.causes()['S2']}."
-    told = "The session was opened with an assertion file; audit goes on with it"
+    told = "The session was opened with an assertion file; audit continues it"
     tried.says(["plurality", "open.json", *files, "seen.csv", "--draws=4"], f"{head} {told}. {END}")
-    told = "The session is one of plurality, which has no assertion file; plurality goes on with it"
+    told = "The session is one of plurality, which has no assertion file; plurality continues it"
     tried.says(["audit", "first.json", *files, "assertions.json", "seen.csv", "--draws=4"], f"{head} {told}. {END}")
 
 
@@ -461,21 +527,21 @@ def cards_are_counted(tried):
     write("far.raire", HEAD + "9,c_1,Ann\n")
     got = boxes("far.raire", "batches.csv")
     tried.see("a record without a card is refused", (got[0], got[1]) == (2, b"") and got[2].startswith("raire: far.raire: M7 at 3\n"), got)
-    told = "boxes: the following arguments are required: manifest; ./raire help boxes tells its words\n"
+    told = "boxes: the following arguments are required: manifest; ./raire help boxes lists its words\n"
     tried.see("two files are wanted", boxes("ballots.raire") == (1, b"", told), boxes("ballots.raire"))
     with open(os.path.join(TOP, "docs", "help", "boxes.txt"), "rb") as file:
         tried.see("help is the page", boxes("--help") == (0, file.read(), ""))
     got = tried.ran(["ballots.raire", "batches.csv"], os.path.join(TOP, "tools", "boxes"), env={**os.environ, "RAIRE": "/none"})
-    tried.see("a program is needed", got == (1, b"", "boxes: RAIRE names no program: /none\n"), got)
+    tried.see("a program is needed", got == (1, b"", "boxes: RAIRE names no program: /none. What to do: unset RAIRE\n"), got)
     got = tried.ran(["ballots.raire", "batches.csv"], os.path.join(TOP, "tools", "boxes"), env={**os.environ, "RAIRE": "/bin/true"})
-    tried.see("and one that answers", got == (1, b"", "boxes: /bin/true gave no answer\n"), got)
+    tried.see("and one that answers", got == (1, b"", "boxes: /bin/true gave no answer. What to do: unset RAIRE\n"), got)
     got = tried.ran(["ballots.raire", "batches.csv", "--contest=x"], os.path.join(TOP, "tools", "boxes"), env={**os.environ, "RAIRE": tried.script})
     told = f'raire: ballots.raire: B5 at 1\nraire: B5: {table.causes()["B5"]}. The file has the contests "9". "x" is none of them. {END}\n'
     tried.see("the line that ./raire adds is passed on", got == (2, b"", told), got)
     for to in (">/dev/full", ">&-"):
         line = ["bash", "-c", f'"$0" "$@" {to}', os.path.join(TOP, "tools", "boxes"), "ballots.raire", "batches.csv"]
         ran = subprocess.run(line, capture_output=True, text=True, env=given)
-        tried.see(f"boxes {to}", (ran.returncode, ran.stderr) == (8, "boxes: the output could not be written\n"), ran)
+        tried.see(f"boxes {to}", (ran.returncode, ran.stderr) == (8, "boxes: the output could not be written. What to do: free the disk\n"), ran)
 
 
 def main():

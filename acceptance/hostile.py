@@ -254,6 +254,7 @@ MANIFESTS = COMMA_SEPARATED + [
     ("more cards than there may be", b"batch,cards\n" + b"".join(b"%d,1000000\n" % k for k in range(100_000)), {2}),
 ]
 
+
 def in_version_2(name, text, cards=b"1", gamma=b"100", limit=b"600000"):
     """The same, of the version that says draws."""
     further = b'"version":2,"cards":%s,"gamma":%s,"limit":%s' % (cards, gamma, limit)

@@ -1,5 +1,6 @@
 """Exports drawn by chance, in every form that ./raire convert reads, with every rule in them."""
 import csv
+import functools
 import json
 import os
 import zipfile
@@ -257,8 +258,8 @@ def complete(chance, names, kind):
     return places
 
 
-def preflib(folder, chance):
-    kind = chance.choice(["soc", "soi", "toc", "toi"])
+def preflib(folder, chance, kind=None):
+    kind = kind or chance.choice(["soi", "toi"])
     drawn = Drawn(chance, most_contests=1, most_at_a_rank=1 if kind[0] == "s" else 3, skips=False)
     ((contest, names),) = drawn.contests.items()
     if kind[-1] == "c":
@@ -281,12 +282,11 @@ def preflib(folder, chance):
     return [path], []
 
 
-
 # ---- Dominion as CSV
 
 def dominion_csv(folder, chance):
     drawn = Drawn(chance)
-    columns, people = [], []
+    columns = []
     for name, names in drawn.contests.items():
         title = f"{name} (Number of positions=1, Number of ranks={len(names)})"
         columns += [(title, f"{each}({rank})", name, each, rank) for rank in range(1, len(names) + 1) for each in names]
@@ -408,10 +408,9 @@ def element(name, value):
 
 # ---- RCTab, and the unified form
 
-def rctab(folder, chance):
+def rctab(folder, chance, is_unified=False):
     drawn = Drawn(chance, most_contests=1)
     ((contest, names),) = drawn.contests.items()
-    is_unified = maybe(chance, 0.4)
     ranks = [f"rank{rank}" if is_unified else f"Rank {rank}" for rank in range(1, len(names) + 1)]
     rows = [["ballotID", "precinct", *ranks] if is_unified else ["CVR Provider", "Tabulator Id", "Batch Id", "Record Id", "Precinct", "Precinct Portion", *ranks]]
     for place, card in enumerate(drawn.cards, 1):
@@ -458,5 +457,6 @@ def unranked(folder, chance):
 
 MAKERS = {
     "dominion": dominion, "dominion-csv": dominion_csv, "hart": hart, "clear-ballot": clear_ballot, "nist": nist, "nist as XML": nist_xml, "ess": ess,
-    "plain": plain, "rctab": rctab, "preflib": preflib,
+    "plain": plain, "rctab": rctab, "rctab in the unified form": functools.partial(rctab, is_unified=True), "preflib": preflib,
+    "preflib as .soc": functools.partial(preflib, kind="soc"), "preflib as .toc": functools.partial(preflib, kind="toc"),
 }

@@ -64,11 +64,11 @@ def write_county(folder, draws, count, audit):
             write(os.path.join(folder, name.replace(" ", "+")), file, [",".join([card, *seen[name][card]]) for card in first])
 
 
-def write_state(folder, contests, counties):
-    """So many contests in so many counties, with a table of terms."""
+def write_state(folder, contests, counties, first=0, audits=AUDITS):
+    """Contests in counties, with a table of terms. The first county is the one of this number."""
     rows = ["county,contest,audit,limit,gamma,seed,draws,trim", f"*,,none,,,{SEED},{' '.join(map(str, LOOKS))},"]
     for at in range(counties):
-        name, audit = f"county {at + 1:03d}", AUDITS[at % len(AUDITS)]
-        write_county(os.path.join(folder, "counties", name), Draws(7_000 + at), contests * (at + 1) // counties - contests * at // counties, audit)
+        name, audit = f"county {at + 1:03d}", audits[at % len(audits)]
+        write_county(os.path.join(folder, "counties", name), Draws(7_000 + first + at), contests * (at + 1) // counties - contests * at // counties, audit)
         rows.append(f"{name},,{audit},,,,,{'yes' if at % 3 == 0 else ''}")
     write(folder, "terms.csv", rows)

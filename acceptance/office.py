@@ -11,12 +11,14 @@ import sys
 import tempfile
 
 import places  # noqa: F401
+import bad_exports
 import plain_audit
 import walk
 from draws import Draws
 
 TOP = os.path.dirname(os.path.dirname(os.path.abspath(__file__)))
 TOWN = os.path.join(TOP, "examples", "town")
+LOOK = "look at the card again, together; correct the file of the reader who was wrong, and compare again"
 SEED = "2026-11-03 dice 2 6 1 4 5 5 3 1"
 MANIFEST, BALLOTS, ASSERTIONS, SEEN = (os.path.join(TOWN, name) for name in ("manifest.csv", "ballots.raire", "assertions.json", "seen.csv"))
 
@@ -44,7 +46,7 @@ class Tried:
 
     def refused(self, status, told, script, *words):
         got = self.run(script, *words)
-        self.see(f"{script} {' '.join(words)} is refused", got[:2] == (status, "") and got[2].startswith(told), got)
+        self.see(f"{script} {' '.join(words)} is refused", got[:2] == (status, "") and got[2].startswith(told.rstrip("\n")), got)
 
 
 def write(name, text):
@@ -78,6 +80,8 @@ def tables(tried):
     for seed, draws in ((SEED, 1), (SEED, 40), (SEED, 90), ("x", 1000), (" -1", 7)):
         words = [MANIFEST, f"--seed={seed}", "--draws", str(draws)]
         note = f'cards: the seed begins with a blank: "␣{seed[1:]}", where each ␣ is a blank\n' if seed[0] == " " else ""
+        short = f"cards: the seed has {len(seed)} character{'s' * (len(seed) != 1)}, too few to be made by chance: use at least 20 throws of a ten-sided die\n"
+        note += short if len(seed) < 12 else ""
         tried.see(f"the cards of {draws} draws of {seed!r}", tried.run("cards", *words) == (0, wanted_cards(seed, 1, draws), note))
         after = draws // 2
         status, out, err = tried.run("cards", *words, f"--after={after}")
@@ -86,17 +90,18 @@ def tables(tried):
     again = "cards: 6 cards were, and count again as they were seen: B02_5, B04_41, B05_37, B06_45, B07_3, B08_8\n"
     tried.see("cards that are drawn again are told", told == "cards: 43 cards of draws 41 to 90 were not drawn before\n" + again, told)
     ids = [line.partition(",")[0] for line in read(SEEN).splitlines()]
-    got = tried.run("cards", MANIFEST, "--seed", SEED, "--draws", "90")
-    tried.see("they stand in the order of the seen file", [line.split(",")[2] for line in got[1].splitlines()[1:]] == ids)
+    rounds = [tried.run("cards", MANIFEST, "--seed", SEED, *words)[1] for words in (["--draws", "40"], ["--draws", "90", "--after", "40"])]
+    listed = [line.split(",")[2] for text in rounds for line in text.splitlines()[1:]]
+    tried.see("round after round they have the order of the seen file", listed == ids)
 
 
-def places(tried):
+def shelves(tried):
     write("places.csv", "batch,place\n" + "".join(f'B0{batch},"shelf {batch}, left"\n' for batch in range(1, 9)))
     words = [MANIFEST, "--seed", SEED, "--draws", "2"]
     wanted = 'batch,number,card,draws,place\nB05,36,B05_36,1,"shelf 5, left"\nB07,19,B07_19,2,"shelf 7, left"\n'
     tried.see("places are told", tried.run("cards", *words, "--places", "places.csv") == (0, wanted, ""))
     write("few.csv", "B05,shelf 5\n")
-    tried.refused(2, "cards: few.csv: there is no place of B07, of which a card is drawn\n", "cards", *words, "--places=few.csv")
+    tried.refused(2, "cards: few.csv: there is no place of B07, of which a card is listed\n", "cards", *words, "--places=few.csv")
     for text, told in (("B05\n", "record 1 is no batch"), ("batch,place\n\nB09,x\n", "record 2 is about B09, and "), ("B05,a\nB05,b\n", "record 2 is about B05, which")):
         write("bad.csv", text)
         tried.refused(2, f"cards: bad.csv: {told}", "cards", *words, "--places=bad.csv")
@@ -133,9 +138,9 @@ def card_words(tried):
         tried.refused(2, f"raire: m.csv: {rule}\n", "cards", "m.csv", "--seed", SEED, "--draws", "4")
     tried.refused(12, "raire: none.csv: no such file\n", "cards", "none.csv", "--seed", SEED, "--draws", "4")
     for more, told in [
-        (["--after", "40"], "--after wants fewer draws"), (["--after=x"], "--after wants fewer draws"), (["--after=-1"], "--after wants fewer draws"),
-        (["--seed", "2"], "--seed stands twice"), (["--page", "--sheet"], "--page, --sheet and --entry are asked for one"), (["more"], "unrecognized"),
-        (["--entry"], "--entry wants the candidates"), (["--ballots", BALLOTS], "--ballots and --names are for"), (["--plac=x"], "unrecognized"),
+        (["--after", "40"], "--after needs fewer draws"), (["--after=x"], "--after needs fewer draws"), (["--after=-1"], "--after needs fewer draws"),
+        (["--seed", "2"], "--seed is given twice"), (["--page", "--sheet"], "--page, --sheet and --entry are asked for one"), (["more"], "unrecognized"),
+        (["--entry"], "--entry needs the candidates"), (["--ballots", BALLOTS], "--ballots and --names are for"), (["--plac=x"], "unrecognized"),
         (["--contest=1"], "--contest is for"), (["--ranks=2"], "--ranks is for"),
     ]:
         tried.refused(1, f"cards: {told}", "cards", *words, *more)
@@ -147,7 +152,7 @@ def card_words(tried):
     tried.refused(1, "cards: the following arguments are required: --draws", "cards", MANIFEST, "--seed", SEED)
     tried.refused(2, "raire: " + BALLOTS + ": B5 at 1\n", "cards", *words, "--entry", "--ballots", BALLOTS, "--contest", "9")
     for text, told in [
-        ("id,name\n1,A\n1,B\n", ": record 3 is about 1, who stood before"), ("1,A\n2\n", ": record 2 isn't id,name of a candidate"), ("", " has no candidates"),
+        ("id,name\n1,A\n1,B\n", ": record 3 is about 1, who came before"), ("1,A\n2\n", ": record 2 isn't id,name of a candidate"), ("", " has no candidates"),
         ("contest,id,name\n7,1,A\n8,1,A\n", " has several contests; --contest says which"), ("contest,id,name\n1,A\n", ": record 2 isn't contest,id,name"),
     ]:
         write("names.csv", text)
@@ -172,13 +177,13 @@ def agreements(tried):
     wanted = (
         "agree: B01_5: Elm, Ash in a.csv; Ash, Elm in b.csv\nagree: B06_11: nobody ranked in a.csv; missing in b.csv\n"
         "agree: B08_57: only in a.csv: Cedar, Birch, Elm\nagree: B08_58: only in b.csv: Cedar, Birch, Elm\n"
-        "agree: 78 of 82 cards were read the same; nothing is written\n"
+        f"agree: 78 of 82 cards were read the same; nothing is written. What to do: {LOOK}\n"
     )
     tried.see("each difference is told with both", tried.run("agree", "a.csv", "b.csv") == (6, "", wanted), tried.run("agree", "a.csv", "b.csv"))
     for bad, told in [
         ("B01_4,\n", "V1 at 1: the card B01_4 has no reading"), ("B01_4\n", "V1 at 1: the card B01_4 has no reading"),
         ("\nx_1,ballot\nx_2,balot\n", "V1 at 2: the card x_2 has neither"), ("x_1,missing,Ash\n", "V1 at 1: the card x_1 is missing, and"),
-        ("x_1,,Ash\n", "V1 at 1: the card x_1 has neither"), ("x_1,missing\nx_1,missing\n", "V3 at 2: the card x_1 stood before, in record 1"),
+        ("x_1,,Ash\n", "V1 at 1: the card x_1 has neither"), ("x_1,missing\nx_1,missing\n", "V3 at 2: the card x_1 came before, in record 1"),
     ]:
         write("b.csv", bad)
         tried.refused(2, f"agree: b.csv: {told}", "agree", "a.csv", "b.csv")
@@ -192,7 +197,7 @@ def agreements(tried):
     with open("/dev/full", "w") as out:
         write("b.csv", text)
         got = tried.run("agree", "a.csv", "b.csv", out=out)
-    tried.see("an output that is full is told", (got[0], got[2]) == (8, "agree: the output could not be written\n"), got)
+    tried.see("an output that is full is told", (got[0], got[2]) == (8, "agree: the output could not be written. What to do: free the disk\n"), got)
 
 
 def readings(tried):
@@ -286,7 +291,7 @@ def all_cards(tried):
     for words, told in [
         (["--all", "--seed=1"], "--all takes all cards: no --seed"), (["--seed=1", "--draws=1", "--batch=B1"], "--batch is for --all"),
         ([], "the following arguments are required: --seed, --draws (or --all)"), (["--all", "--marks"], "--marks is for --entry"),
-        (["--all", "--entry", "--ballots", BALLOTS, "--ranks=0"], "--ranks wants a number from 1 to 1000"),
+        (["--all", "--entry", "--ballots", BALLOTS, "--ranks=0"], "--ranks needs a number from 1 to 1000"),
     ]:
         tried.refused(1, f"cards: {told}", "cards", "m.csv", *words)
     tried.refused(2, "cards: --batch names B9, and m.csv has no such batch\n", "cards", "m.csv", "--all", "--batch=B9")
@@ -306,7 +311,8 @@ def marks(tried):
     write("names.csv", 'id,name\nAsh,"Ash, Ana"\n')
     wanted = (
         "agree: B1_1: 1 Ash, Ana and Elm, 2 Birch in a.csv; 1 Ash, Ana, 2 Birch in b.csv\nagree: B1_2: nothing marked in a.csv; nobody ranked in b.csv\n"
-        "agree: B1_3: missing in a.csv; 3 Elm in b.csv\nagree: 0 of 3 cards were read the same; nothing is written\n"
+        "agree: B1_3: missing in a.csv; 3 Elm in b.csv\n"
+        f"agree: 0 of 3 cards were read the same; nothing is written. What to do: {LOOK}\n"
     )
     got = tried.run("agree", "a.csv", "b.csv", "--names", "names.csv")
     tried.see("marks that differ are told by name", got == (6, "", wanted), got)
@@ -314,14 +320,14 @@ def marks(tried):
         got = tried.run("convert", "marks", "a.csv", "--ballots", BALLOTS, "--overvotes=pass", f"--skips={skips}")
         tried.see(f"marks by the rules, skips {skips}", got[:2] == (0, seen), got)
     for bad, told in [
-        ("B1_1,marks,1\n", "V1 at 1: the card B1_1 has marks, and behind that no ranks"), ("B1_1,marks,x,Ash\n", "V1 at 1: the card B1_1 has marks"),
+        ("B1_1,marks,1\n", "V1 at 1: the card B1_1 has marks, and after that no ranks"), ("B1_1,marks,x,Ash\n", "V1 at 1: the card B1_1 has marks"),
         ('B1_1,ballot,"Ash\nB1_2,ballot\n', "V1 at 1: a quote isn't closed in its line, before Ash; take it out, or close it\n"),
     ]:
         write("b.csv", bad)
         tried.refused(2, f"agree: b.csv: {told}", "agree", "a.csv", "b.csv")
     write("b.csv", 'B1_1,ballot,"Ash\n' + "B1_2,ballot,Birch\n" * 2000)
     told = tried.run("agree", "a.csv", "b.csv")[2]
-    tried.see("a quote that isn't closed prints a line, and no file", len(told) < 200, len(told))
+    tried.see("a quote that isn't closed prints a line, and no file", len(told) < 250 and told.count("\n") == 1, told)
 
 
 def pairs(tried):
@@ -355,21 +361,59 @@ def named(tried):
     write("names.csv", 'contest,id,name\n101,,Mayor\n101,15,"Ash, Ana"\n101,16,Birch\n101,17,Zoë\n')
     given = ["--names", "names.csv"]
     got = run_script(tried, "tabulate", "b.raire", *given)
-    wanted = "contest Mayor (101)\nrecords 4\nround 1: Ash, Ana=1 Birch=2 Zoë=1 exhausted=0\ntied Ash, Ana; Zoë\neliminated Ash, Ana\nround 2: Birch=2 Zoë=1 exhausted=1\neliminated Zoë\nwinner Birch\n"
+    wanted = "contest Mayor (101)\nrecords 4\nround 1: Ash, Ana=1; Birch=2; Zoë=1; exhausted=0\ntied Ash, Ana; Zoë\neliminated Ash, Ana\nround 2: Birch=2; Zoë=1; exhausted=1\neliminated Zoë\nwinner Birch\n"
     tried.see("a tabulation with names", got == (0, wanted, ""), got)
+    got = tried.run("rounds", "b.raire", "--ties=15", *given)
+    tried.see("rounds with names", got[:2] == (3, wanted[:wanted.index("eliminated")]), got)
     write("a.json", tried.run("raire", "search", "b.raire")[1])
     write("m.csv", "batch,cards\nb,4\n")
     got = run_script(tried, "plan", "m.csv", "a.json", *given)
-    tried.see("a plan with names", got[0] == 0 and "Birch, Ash, Ana" in got[1] and "15" not in got[1], got)
+    tried.see("a plan with names", got[0] == 0 and "Birch; Ash, Ana" in got[1] and "15" not in got[1], got)
     write("s.json", tried.run("raire", "open", "b.raire", "m.csv", "a.json", "--seed=1")[1])
     got = run_script(tried, "report", "s.json", *given)
     tried.see("a report with names", got[0] == 0 and got[1].startswith("contest Mayor (101)\ncards 4\n"), got)
     got = run_script(tried, "contests", "b.raire", "m.csv", "s.csv", "--seed=1", "--draws=1", *given)
     tried.see("a refusal is the program's", got[0] == 12 and got[2].startswith("raire: s.csv: no such file\n"), got)
-    for text, told in [("", "names: names.csv"), ("id,name\n1,A\n1,B\n", "names: names.csv: record 3 is about 1, who stood before")]:
+    for text, told in [("", "names: names.csv"), ("id,name\n1,A\n1,B\n", "names: names.csv: record 3 is about 1, who came before")]:
         write("names.csv", text)
         got = run_script(tried, "tabulate", "b.raire", *given)
         tried.see(f"names {text!r}", (got[0], got[2][:len(told)]) == (2, told) if text else got[0] == 0, got)
+
+
+ALIKE = (("Birch", "Birch"), ("Birch", "birch"), ("Ann Lee", "Ann  Lee"), ("Ann Lee", "AnnLee"), ("Zo\u00eb", "Zoe\u0308"), ("Fitz", "\ufb01tz"), ("Stra\u00dfer", "STRASSER"))
+
+
+def alike(tried):
+    """Names that look alike are refused by each tool that takes names, with both records and ids."""
+    write("b.raire", "1\nContest,101,3,15,16,17\n101,b_1,15\n101,b_2,16\n101,b_3,16\n101,b_4,17,16\n")
+    write("m.csv", "batch,cards\nb,4\n")
+    write("seen.csv", "b_1,ballot,15\n")
+    write("other.csv", "b_1,ballot,16\n")
+    given = ["--names", "names.csv"]
+    tools = (("cards", "m.csv", "--all", "--entry"), ("cards", "m.csv", "--all", "--entry", "--ballots", "b.raire"), ("agree", "seen.csv", "other.csv"), ("rounds", "b.raire"))
+    for first, second in ALIKE:
+        write("names.csv", f"contest,id,name\n101,15,{first}\n101,16,{second}\n101,17,Elm\n")
+        told = f"names.csv: record 2 calls 15 {first}, and record 3 calls 16 {second}; these names look alike (case, blanks and letter forms don't count): give each another one, such as {second} (16)\n"
+        for name, *words in tools:
+            tried.refused(2, f"{name}: {told}", name, *words, *given)
+        got = run_script(tried, "tabulate", "b.raire", *given)
+        tried.see(f"names {first} and {second} are refused", got[:2] == (2, "") and got[2].startswith(f"names: {told.rstrip()}. What to do: "), got)
+        write("names.csv", f"contest,id,name\n101,15,{first}\n102,16,{second}\n")
+        tried.see(f"{first} and {second} of two contests", tried.run("cards", "m.csv", "--all", "--entry", *given, "--contest=101")[0] == 0)
+    write("names.csv", "id,name\n15, 1 7\n16,Birch\n")
+    told = "names.csv calls 15 1 7, and has no name for 17; both look alike (case, blanks and letter forms don't count): give each another name, such as 1 7 (15)\n"
+    write("other.csv", "b_1,ballot,17\n")
+    for name, *words in tools[1:]:
+        tried.refused(2, f"{name}: {told}", name, *words, *given)
+    got = run_script(tried, "tabulate", "b.raire", *given)
+    tried.see("a name like an id is refused", got[:2] == (2, "") and got[2].startswith(f"names: {told.rstrip()}. What to do: "), got)
+    write("ids.raire", "1\nContest,1,2,Birch,birch\n1,b_1,Birch\n")
+    tried.see("ids that look alike are shown as they are", tried.run("cards", "m.csv", "--all", "--entry", "--ballots", "ids.raire")[0] == 0)
+    os.mkdir("export")
+    people = [{"Description": name, "Id": number, "ContestId": 5, "Type": "Regular"} for number, name in enumerate(("Ash", "Birch", "ASH"), 1)]
+    words = bad_exports.dominion("export", bad_exports.session(1, (1, 1), (2, 2)), files={"CandidateManifest.json": {"Version": "5.10.50.85", "List": people}})
+    got = tried.run("convert", *words, "--names", "made.csv")
+    tried.see("an export's names that look alike have their ids behind them", got[0] == 0 and read("made.csv") == "contest,id,name\n5,,Mayor\n5,1,Ash (1)\n5,2,Birch\n5,3,ASH (3)\n", (got, read("made.csv")))
 
 
 def run_script(tried, *words):
@@ -404,6 +448,8 @@ def terms(tried):
     status, page, err = tried.run("cards", MANIFEST, "--seed=2026  6 ", "--draws=2", "--page")
     tried.see("a page shows each blank of a seed", '<code class="seed">2026<span class="blank"> </span><span class="blank"> </span>6<span class="blank"> </span></code>' in page)
     tried.see("and says that there are some", "It has two blanks in a row and ends with a blank." in page and err.startswith('cards: the seed has two blanks'), err)
+    tried.see("a short seed is told too", err.count("\n") == 2 and "cards: the seed has 8 characters, too few to be made by chance" in err, err)
+    tried.see("where all cards are listed there is none", tried.run("cards", MANIFEST, "--all", "--batch=B01")[2] == "")
     tried.see("its command has the seed in quotes", "&#39;--seed=2026  6 &#39;" in page)
 
 
@@ -444,12 +490,19 @@ def manifests(tried):
     write("o.csv", "Box name,Shelf,How many\nBox 7,left,3\nBox 8,right,4\nAll,,7\n")
     got = tried.run("manifest", "plain", "o.csv", "--batch=Box name", "--count=How many")
     tried.see("a manifest of an office's boxes, and its total", got[:2] == (0, "batch,cards\nBox 7,3\nBox 8,4\nAll,7\n") and "batch All has 7 cards, as many as all others together" in got[2], got)
+    write("o.csv", "Batch,Cards,First,Last\nSumner 1,3,1,3\nTotally,2,,\nOak,2,5,6\n")
+    got = tried.run("manifest", "plain", "o.csv")
+    tried.see("batches whose names begin as a total does, and one without numbers", got[:2] == (0, "batch,cards\nSumner 1,3\nTotally,2\nOak,2\n"), got)
+    tried.see("a number that is missing", "manifest: number 4 is missing: between batch Sumner 1 and batch Oak\n" in got[2], got)
+    for total in ("Total", "TOTALS:", "Grand Total", "Subtotal", "Sum"):
+        write("o.csv", f"Batch,Cards,First,Last\nOak,2,1,2\n{total},2,,\n")
+        tried.refused(2, "manifest: o.csv: line 3: the row has no batch: take a line of totals out of the list", "manifest", "plain", "o.csv")
     write("h.csv", "Batch Number;Cards\n1;2\n")
     tried.refused(2, "manifest: h.csv: line 1: no column is called batchnumber", "manifest", "hart", "h.csv")
     for text, told in [
         ("batch,cards\nB1,x\n", "line 2: x is no number of cards"), ("batch,cards\nB1,\"1,200\"\n", "line 2: 1,200 is no number of cards; without marks it would be 1200"),
-        ("batch,cards\nB1,2\nB1,3\n", "line 3: the batch B1 stood before, at b.csv: line 2"), ("batch,cards\nB1,2\n,2\n", "line 3: a row of 2 cards has no batch"),
-        ("batch,cards\nTotal,2\n", "line 2: a row of 2 cards has no batch: take a line of totals out"), ("batch,cards\nÖl,2\n", "line 2: no manifest can have the batch Öl"),
+        ("batch,cards\nB1,2\nB1,3\n", "line 3: the batch B1 came before, at b.csv: line 2"), ("batch,cards\nB1,2\n,2\n", "line 3: the row has no batch"),
+        ("batch,cards\nTotal,2\n", "line 2: the row has no batch: take a line of totals out"), ("batch,cards\nÖl,2\n", "line 2: no manifest can have the batch Öl"),
         ("batch,cards,first,last\nB1,2,1,3\n", "line 2: the numbers 1 to 3 are 3 cards, and the count is 2"), ("batch,first,last\nB1,5,4\n", "line 2: the numbers 5 to 4 are 0 cards"),
         ("batch,first,last\nB1,1,5\nB2,5,6\n", "line 3: the numbers 5 to 6 of batch B2 overlap with those of batch B1, which end with 5"),
         ("batch\nB1\n", "line 1: no column is called cards, count"), ("", "is empty"),
@@ -502,16 +555,16 @@ def helps(tried):
         words = {"cards": [MANIFEST, "--seed=1", "--draws=1"], "batches": [BALLOTS, MANIFEST]}.get(script)
         if words:
             ran = subprocess.run([os.path.join(TOP, "tools", script), *words], capture_output=True, text=True, env=given)
-            tried.see(f"{script} needs a program", (ran.returncode, ran.stderr) == (1, f"{script}: RAIRE names no program: /none\n"), ran)
+            tried.see(f"{script} needs a program", (ran.returncode, ran.stderr) == (1, f"{script}: RAIRE names no program: /none. What to do: unset RAIRE\n"), ran)
             ran = subprocess.run([os.path.join(TOP, "tools", script), *words], capture_output=True, text=True, env={**given, "RAIRE": "/bin/true"})
-            told = (1, "", f"{script}: /bin/true gave no answer\n")
+            told = (1, "", f"{script}: /bin/true gave no answer. What to do: unset RAIRE\n")
             tried.see(f"{script} needs one that answers", (ran.returncode, ran.stdout, ran.stderr) == told, ran)
 
 
 def main():
     tried, here = Tried(sys.argv[1]), os.getcwd()
     for part in (
-        tables, places, sheets, card_words, agreements, readings, own_batches, counted_boxes, all_cards, marks, pairs, named, terms, manifests, rounds, helps,
+        tables, shelves, sheets, card_words, agreements, readings, own_batches, counted_boxes, all_cards, marks, pairs, named, terms, manifests, rounds, helps, alike,
     ):
         with tempfile.TemporaryDirectory() as folder:
             os.chdir(folder)

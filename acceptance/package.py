@@ -14,6 +14,7 @@ import subprocess
 import sys
 import tempfile
 
+import keys
 import places  # noqa: F401
 import walk
 
@@ -28,6 +29,10 @@ KIT = "a kit of that time"
 PLACE = "/root/walk"
 PATH = "/usr/sbin:/usr/bin:/sbin:/bin"
 GIVEN = {"PATH": PATH, "HOME": "/root", "LANG": "C.UTF-8", "DEBIAN_FRONTEND": "noninteractive"}
+ROOM = (
+    "dev", "proc", "tmp", "root", "var/lib/dpkg/info", "var/lib/dpkg/updates", "var/lib/dpkg/triggers", "var/cache/apt/archives/partial",
+    "var/lib/apt/lists/partial", "var/log/apt",
+)
 MACHINE_PACKAGES = ("apt", "python3", "libc6", "libgcc-s1", "coreutils", "bash", "findutils", "grep", "sed", "gawk", "mawk", "diffutils")
 
 
@@ -83,9 +88,10 @@ def copy_packages(root):
     files |= {os.path.realpath(f"/etc/alternatives/{name}") for name in os.listdir("/etc/alternatives")} & files
     files |= {"/etc/passwd", "/etc/group", "/etc/ld.so.conf", "/usr/bin/awk"}
     there = sorted(path for path in files if os.path.lexists(path) and (os.path.islink(path) or not os.path.isdir(path)))
-    packed = subprocess.run(["tar", "-C", "/", "--null", "-T", "-", "-cf", "-"], input="\0".join(path.lstrip("/") for path in there).encode(), capture_output=True)
+    listed = "\0".join(path.lstrip("/") for path in there).encode()
+    packed = subprocess.run(["tar", "-C", "/", "--null", "-T", "-", "-cf", "-"], input=listed, capture_output=True)
     subprocess.run(["tar", "-C", root, "--keep-directory-symlink", "-xf", "-"], input=packed.stdout, check=True, capture_output=True)
-    for folder in ("dev", "proc", "tmp", "root", "var/lib/dpkg/info", "var/lib/dpkg/updates", "var/lib/dpkg/triggers", "var/cache/apt/archives/partial", "var/lib/apt/lists/partial", "var/log/apt"):
+    for folder in ROOM:
         os.makedirs(os.path.join(root, folder), exist_ok=True)
     with open(os.path.join(root, "var/lib/dpkg/status"), "w") as file:
         file.write("\n".join(ran("dpkg-query", "--status", name)[1] for name in names))
@@ -125,6 +131,28 @@ def as_made(parts, again):
         yield "the changes begin with this version", re.search("^## (.*)$", file.read(), re.MULTILINE)[1] == version
 
 
+def as_listed(path, tree, folder):
+    """The list of digests has each file of the package once, and the package needs the Python that its tools do."""
+    control = os.path.join(folder, "control")
+    yield "its control files are unpacked", ran("dpkg-deb", "--control", path, control)[0] == 0
+    with open(os.path.join(control, "md5sums")) as file:
+        listed = dict(reversed(line.rstrip("\n").split("  ", 1)) for line in file)
+    there = [os.path.join(place, name) for place, _, names in os.walk(tree) for name in names]
+    digests = {os.path.relpath(each, tree): hashlib.md5(read(each), usedforsecurity=False).hexdigest() for each in there if not os.path.islink(each)}
+    yield "md5sums has each file", listed == digests
+    yield "control files can be read by all", all(os.stat(os.path.join(control, name)).st_mode & 0o777 == 0o644 for name in os.listdir(control))
+    depends = ran("dpkg-deb", "--field", path, "Depends")[1].strip()
+    yield f"it depends on Python: {depends}", re.search(r"(^|, )python3 \(>= 3\.11\)(,|$)", depends) is not None
+    first_lines = {each: read(each)[:40].partition(b"\n")[0] for each in there if not os.path.islink(each) and os.access(each, os.X_OK)}
+    others = {os.path.relpath(each, tree): line for each, line in first_lines.items() if b"python" in line and line != b"#!/usr/bin/python3"}
+    yield f"Python is the distribution's: {others}", not others
+
+
+def read(path):
+    with open(path, "rb") as file:
+        return file.read()
+
+
 def as_judged(path):
     if not shutil.which("lintian"):
         not_tried("lintian", "it isn't here")
@@ -153,8 +181,8 @@ def man_pages(tree):
 
 def completed(script, *words):
     """What bash offers for the last of the words."""
-    lines = f'. "{script}"; COMP_WORDS=({" ".join(map(repr, words))}); COMP_CWORD={len(words) - 1}; compopt() {{ :; }}; _raire; printf "%s\\n" "${{COMPREPLY[@]}}"'
-    return set(ran("bash", "-c", lines)[1].split())
+    given = f'COMP_WORDS=({" ".join(map(repr, words))}); COMP_CWORD={len(words) - 1}'
+    return set(ran("bash", "-c", f'. "{script}"; {given}; compopt() {{ :; }}; _raire; printf "%s\\n" "${{COMPREPLY[@]}}"')[1].split())
 
 
 def completions(tree):
@@ -163,9 +191,26 @@ def completions(tree):
     yield "bash: options of a command", completed(script, "raire", "search", "--n") == {"--nodes"}
     yield "bash: pages of help", completed(script, "raire", "help", "che") == {"check"}
     yield "bash: files", f"{TOP}/README.md" in completed(script, "raire", "search", f"{TOP}/READ")
-    if shutil.which("zsh"):
-        status, _, err = ran("zsh", "-n", os.path.join(tree, "usr/share/zsh/vendor-completions/_raire"))
-        yield f"zsh reads its completion: {err}", status == 0
+    yield from typed(["bash", "--norc", "--noprofile", "-i"], f'. "{script}"')
+    if not shutil.which("zsh"):
+        not_tried("the completion of zsh", "zsh isn't here")
+        return
+    folder = os.path.join(tree, "usr/share/zsh/vendor-completions")
+    yield from typed(["zsh", "-f", "-i"], f'fpath=("{folder}" $fpath); autoload -Uz compinit; compinit -u -D')
+
+
+TYPED = {
+    "raire sea": "raire search", "./raire sta": "./raire state", "raire search --n": "raire search --nodes", "raire state --pro": "raire state --profile",
+    "raire help che": "raire help check", "raire search READ": "raire search README.md", "raire versi": "raire version",
+}
+
+
+def typed(words, line):
+    """What a TAB makes of lines, in a shell at a terminal, in the folder of README."""
+    with keys.Shell(words, [line], TOP) as shell:
+        for begun, wanted in TYPED.items():
+            got = shell.completed(begun)
+            yield f"{words[0]}: {begun} and a TAB: {got}", got.rstrip() == wanted
 
 
 def in_root(root, *words, place="/"):
@@ -186,7 +231,8 @@ def used(root, path, digest):
     yield f"it is installed: {done}", done[0] == 0
     yield "there is no rt", in_root(root, "bash", "-c", "type rt")[0] != 0
     status, out, err = in_root(root, "raire", "version")
-    yield f"its version: {out}{err}", (status, err) == (0, "") and out == f"raire {release.contents(release.Commit(), b'', KIT)[1]}, commit {release.Commit().short}, released; {KIT}\n"
+    wanted = f"raire {release.contents(release.Commit(), b'', KIT)[1]}, commit {release.Commit().short}, released; {KIT}\n"
+    yield f"its version: {out}{err}", (status, out, err) == (0, wanted, "")
     yield "the program is the one that was released", in_root(root, "sha256sum", "/usr/lib/raire/crates/raire/out/raire")[1].split()[0] == digest
     place = os.path.join(root, PLACE.lstrip("/"))
     os.makedirs(place)
@@ -204,7 +250,8 @@ def used(root, path, digest):
     yield "a command that needs the repository says so", in_root(root, "raire", "release")[0] == 1
     done = in_root(root, "apt-get", "purge", "-y", "raire")
     yield f"it is removed: {done}", done[0] == 0
-    left = {path for path in files_of(root) - before if "/usr/lib/python3" not in path and not path.endswith(("/etc/shells", "/var/lib/shells.state"))}  # these are the system's own
+    its_own = ("/etc/shells", "/var/lib/shells.state")  # the system's, as are the folders of Python
+    left = {path for path in files_of(root) - before if "/usr/lib/python3" not in path and not path.endswith(its_own)}
     yield f"nothing of it is left: {sorted(left)[:5]}", not left
 
 
@@ -220,6 +267,7 @@ def cases(program, folder, is_from_afar):
     with open(path, "wb") as file:
         file.write(parts[-1][1])
     yield "it is unpacked", ran("dpkg-deb", "--extract", path, tree)[0] == 0
+    yield from as_listed(path, tree, folder)
     yield from as_judged(path)
     yield from man_pages(tree)
     yield from completions(tree)

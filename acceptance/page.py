@@ -129,11 +129,13 @@ def refusals(shows, tried):
         (["more.raire", "assertions.json"], 1, "show: assertions.json isn't about the contest of more.raire"),
         (["other.raire", "session.json"], 1, "show: other.raire isn't the ballot file of session.json"),
         (["session.json", "other.json"], 1, "show: other.json isn't the assertion file of session.json"),
-        ([*whole, "missing.csv"], 1, "show: missing.csv doesn't give the rounds of session.json"),
+        ([*whole, "missing.csv"], 1, "show: missing.csv doesn't give round 1 of session.json: assertion 1 has the counts "),
         (["more.raire", "manifest.csv", "assertions.json"], 1, "show: assertions.json isn't about"),
     ]:
         got = shows.run(*words)
         tried.see(f"{words} are refused", got[0] == status and got[1] == "" and got[2].startswith(told), got)
+        is_of_program = told.startswith("raire: ") and status == 2  # ./raire adds what to do, and the program alone is asked here
+        tried.see(f"what to do about {words}", is_of_program or " What to do: " in got[2] or "./raire help show" in got[2], got)
     before = sorted((name, open(name).read()) for name in os.listdir("."))
     status, page, err = shows.run(*whole, "seen.csv")
     tried.see("a whole audit is shown", status == 0 and err == "" and "ended with the same bytes" in page, (status, err))
@@ -156,10 +158,10 @@ def words(shows, tried):
     write("-b.raire", audits.BALLOTS)
     both = ["ballots.raire", "assertions.json"]
     for line, told in [
-        (["--nodes"], "--nodes wants a value"), (["--nodes="], "--nodes wants a value"), (["--contest", "--nodes=1"], "--contest wants a value"),
-        (["--nodes", "0"], "--nodes wants a number"), (["--nodes=x"], "--nodes wants a number"), (["--nodes=200001"], "--nodes wants a number"),
-        (["--contest=7", "--contest=7"], "--contest stands twice"), (["--nodes=1", "--nodes", "2"], "--nodes stands twice"),
-        (["--contest= 7"], "--contest wants the id"), (["--floor=1"], "no such option"), (["-n"], "no such option"), ([""], "a file has no name"),
+        (["--nodes"], "--nodes needs a value"), (["--nodes="], "--nodes needs a value"), (["--contest", "--nodes=1"], "--contest needs a value"),
+        (["--nodes", "0"], "--nodes needs a number"), (["--nodes=x"], "--nodes needs a number"), (["--nodes=200001"], "--nodes needs a number"),
+        (["--contest=7", "--contest=7"], "--contest is given twice"), (["--nodes=1", "--nodes", "2"], "--nodes is given twice"),
+        (["--contest= 7"], "--contest needs the id"), (["--floor=1"], "no such option"), (["-n"], "no such option"), ([""], "a file has no name"),
         (["--", "--nodes"], "raire: --nodes: no such file"),
     ]:
         for files in ([], ["ballots.raire"], both):
@@ -167,7 +169,7 @@ def words(shows, tried):
             is_told = err.startswith(told if told.startswith("raire") else f"show: {told}") or (not files and err.startswith("show: no files"))
             tried.see(f"{files + line} are refused", status == (12 if told.startswith("raire") else 1) and page == "" and is_told, (status, err))
     for line, told in [
-        (["ballots.raire", "--nodes=1"], "show: --nodes is the budget"), (["manifest.csv", "--contest=7"], "show: --contest wants a file"),
+        (["ballots.raire", "--nodes=1"], "show: --nodes is the budget"), (["manifest.csv", "--contest=7"], "show: --contest needs a file"),
         (["assertions.json", "--contest=9"], "show: assertions.json is about contest 7, and not 9"),
     ]:
         status, page, err = shows.run(*line)
@@ -179,14 +181,14 @@ def words(shows, tried):
         for output in ("> /dev/full", ">&-", "| true"):
             told = f'set -o pipefail; (sleep 0.1; exec "$0" "$@") {output}' if output == "| true" else f'exec "$0" "$@" {output}'
             ran = subprocess.run(["bash", "-c", told, SHOW, *line], capture_output=True, text=True, env=shows.given)
-            tried.see(f"{line} {output} is told", (ran.returncode, ran.stderr) == (8, "show: the page could not be written\n"), ran)
+            tried.see(f"{line} {output} is told", ran.returncode == 8 and ran.stderr.startswith("show: the page could not be written. What to do: free the disk"), ran)
 
 
 # ---- which program, and what it judged
 
 def copy_of_clone(folder):
     """A clone's ./raire show with a ./raire that needs no build."""
-    for name in (os.path.join("tools", "page"), os.path.join("tools", "office"), "plain"):
+    for name in (os.path.join("tools", "page"), os.path.join("tools", "office"), os.path.join("tools", "hints"), "plain"):
         shutil.copytree(os.path.join(TOP, name), os.path.join(folder, name), ignore=shutil.ignore_patterns("__pycache__"))
     shutil.copy(SHOW, os.path.join(folder, "tools"))
     write_program(os.path.join(folder, "raire"), STANDS_IN)
@@ -257,7 +259,7 @@ def sessions(shows, tried):
     tried.see("the line that ./raire adds stands last", len(lines) == 4 and lines[2].startswith("raire: S1: "), lines)
     write("cards.json", audits.session_with(rounds[:0], False).replace('"cards":1', '"cards":2'))
     got = shows.run("cards.json", "manifest.csv")
-    tried.see("another number of cards is told", got == (1, "", "show: cards.json is about 2 cards, and manifest.csv has 1\n"), got)
+    tried.see("another number of cards is told", got[:2] == (1, "") and got[2].startswith("show: cards.json is about 2 cards, and manifest.csv has 1. What to do: use both files of one contest"), got)
     write("margins.json", audits.session_with(rounds[:0], False).replace('"gamma":100', '"gamma":99').replace('"version":1', '"version":1,"more":1'))
     status, page, err = shows.run("margins.json", *files)
     tried.see("a session in another form is shown", status == 0 and "no card was drawn yet" in page, err)
@@ -267,7 +269,7 @@ def sessions(shows, tried):
     page = shows.run("session.json", *files, "seen.csv")[1]
     write("seen.csv", "b_1,missing\n")
     got = shows.run("open.json", *files, "seen.csv")
-    tried.see("seen cards of another audit are told", got == (1, "", "show: seen.csv doesn't give the rounds of open.json\n"), got)
+    tried.see("seen cards of another audit are told", got[:2] == (1, "") and got[2].startswith("show: seen.csv doesn't give round 1 of open.json: assertion 1 has the counts "), got)
     write("seen.csv", "")
     status, page, err = shows.run("open.json", *files, "seen.csv")
     tried.see("a drawn card that wasn't seen is told", status == 2 and page == "" and err.endswith("V4 card 1 draw 1\n"), (status, err))
@@ -352,8 +354,8 @@ def by_sets(shows, tried):
     status, page, err = shows.run(ballots, assertions, "--sets=2046")
     tried.see("a budget that is spent is told", status == 0 and "The check was spent (spent, sets 2046)" in text_of(page) and "--sets 1048576" in page, err)
     for words, told in [
-        (["--sets=1", "--nodes=1"], "--sets stands in place of --nodes"), (["--sets=0"], "--sets wants a number from 1 to 1048576"),
-        (["--sets=1048577"], "--sets wants a number from 1 to 1048576"), (["--sets"], "--sets wants a value"),
+        (["--sets=1", "--nodes=1"], "--sets takes the place of --nodes"), (["--sets=0"], "--sets needs a number from 1 to 1048576"),
+        (["--sets=1048577"], "--sets needs a number from 1 to 1048576"), (["--sets"], "--sets needs a value"),
     ]:
         got = shows.run(ballots, assertions, *words)
         tried.see(f"{words} are refused", got[:2] == (1, "") and got[2].startswith(f"show: {told}"), got)
@@ -373,7 +375,7 @@ def belonging(shows, tried):
     write("3.csv", "batch,cards\nb,3\n")
     county, town = (os.path.join(TOP, "examples", *path) for path in (["county.raire"], ["town", "manifest.csv"]))
     got = shows.run("1.raire", "2.csv", "--contest=7")
-    tried.see("M7 is told", got == (1, "", "show: 1.raire doesn't belong to 2.csv: M7 at 6 of 1.raire: the ballot b_3 names no card of 2.csv\n"), got)
+    tried.see("M7 is told", got[:2] == (1, "") and got[2].startswith("show: 1.raire doesn't belong to 2.csv: M7 at 6 of 1.raire: the ballot b_3 names no card of 2.csv. What to do: "), got)
     status, page, err = shows.run("1.raire", "3.csv", "--contest=7")
     tried.see("a card for each ballot", status == 0 and "3 ballots on record, each with the id of one of these cards" in page, err)
     status, page, err = shows.run("1.raire", "3.csv", "--contest=6")
@@ -382,7 +384,7 @@ def belonging(shows, tried):
     tried.see("the county isn't the town", got[0] == 1 and got[1] == "" and county in got[2] and town in got[2] and "M7 at 3 " in got[2], got)
     write("4.json", audits.ASSERTIONS.replace('"records":1', '"records":9'))
     got = shows.run("4.json", "3.csv")
-    tried.see("more ballots than cards are told", got == (1, "", "show: 4.json is about 9 ballots, and 3.csv has 3 cards\n"), got)
+    tried.see("more ballots than cards are told", got == (1, "", "show: 4.json is about 9 ballots, and 3.csv has 3 cards. What to do: use both files of one contest; compare sha256sum\n"), got)
 
 
 def seen_alone(shows, tried):
@@ -398,7 +400,8 @@ def seen_alone(shows, tried):
     ]:
         write("s.csv", text)
         got = shows.run("s.csv", *others)
-        tried.see(f"{told} is told of {text[:40]!r}", got == (2, "", f"show: s.csv: {told} (judged by this page, and not by the program)\n"), got)
+        line = f"show: s.csv: {told} (judged by this page, and not by the program). What to do: "
+        tried.see(f"{told} is told of {text[:40]!r}", got[:2] == (2, "") and got[2].startswith(line) and got[2].count("\n") == 1, got)
     write("s.csv", "b_1,ballot,3,4\nb_2,missing\n")
     write("t.csv", "b_1,ballot,2,1\n")
     write("seen.csv", "")
@@ -477,7 +480,7 @@ def states(shows, tried):
         tried.see(f"what was only checked isn't green: {words}", kind == "signed" or 'class="good"' not in page)
     tried.see("each state has its own mark", len(marks) == 5 and all(len(kinds) == 1 for kinds in marks.values()), marks)
     page = shows.run(*files)[1]
-    tried.see("a check is of the records", "The assertions hold of these records" in text_of(page) and "For this alone no paper was looked at." in text_of(page))
+    tried.see("a check is of the records", "The assertions hold of these records" in text_of(page) and "No paper was looked at for this." in text_of(page))
     unusual(shows, tried, files)
 
 
@@ -522,8 +525,8 @@ def bytes_of_sessions(shows, tried):
     with open("session.json") as file:
         printed = file.read()
     for text, told in [
-        (printed, None), (printed.replace('"version":1', '"version":1,"watched":"by nobody"'), "its bytes are others, and watched was added."),
-        (printed.replace(",", ", "), "its bytes are others."), (printed + "\n", "its bytes are others."),
+        (printed, None), (printed.replace('"version":1', '"version":1,"watched":"by nobody"'), "its bytes are different, and watched was added."),
+        (printed.replace(",", ", "), "its bytes are different."), (printed + "\n", "its bytes are different."),
     ]:
         write("session.json", text)
         for others in ([], [*files, "seen.csv"]):
@@ -558,18 +561,18 @@ def clean_draws(shows, tried):
     enough, terms = "For all of them: 56 draws.", "for 480 cards, a risk limit of 0.05 and a gamma of 100 thousandths."
     plan, own = "So the program’s plan says, by the file’s margins", "for the file’s own margin, cards, risk limit and gamma."
     for files, top, told in [
-        (["said.json"], None, f"{enough} So the assertion file says, {terms} Give the ballot file too"),
-        (["said.json", ballots], None, f"{enough} So the assertion file says, {terms} The program’s check worked out the same."),
+        (["said.json"], None, f"{enough} This is what the assertion file says, {terms} Give the ballot file too"),
+        (["said.json", ballots], None, f"{enough} This is what the assertion file says, {terms} The program’s check worked out the same."),
         (["said.json", manifest], None, f"{enough} {plan}, {terms} The assertion file says the same."),
         (["said.json", ballots, manifest], None, f"{enough} {plan}, {terms} The assertion file says the same."),
-        (["none.json", ballots], None, "For all of them: a full count. A full count: as many draws as there are cards, or 100,000, aren’t enough. So the assertion file says"),
+        (["none.json", ballots], None, "For all of them: a full count. A full count: as many draws as there are cards, or 100,000, aren’t enough. This is what the assertion file says"),
         (["far.json", manifest], "for other terms: for 600 cards; the manifest has 480 cards. An audit doesn’t go by the file’s draws and terms.", "“By the file” is what the assertion file says, for 600 cards"),
         (["changed.json", ballots], "The assertion file isn’t accepted : no: assertion 3 needs 56 draws. All else holds", "The program’s check worked out other draws."),
         (["wrong.json", ballots], "The assertion file isn’t accepted : no: assertion 1 has margin 62", "The program hasn’t confirmed it."),
         (["wrong.json", manifest], f"assertion 1 has 54 draws, and needs 53 draws, {own}", f"{plan}, {terms} “By the file”"),
         (["changed.json", manifest], f"assertion 3 has 55 draws, and needs 56 draws, {own}", f"{plan}, {terms} “By the file”"),
         (["said.json", ballots, manifest, "opened.json"], "for a risk limit of 0.05; the session has a risk limit of 0.04.", "for 480 cards, a risk limit of 0.04 and"),
-        (["said.json", "opened.json"], "for a risk limit of 0.05; the session has a risk limit of 0.04.", f"So the assertion file says, {terms}"),
+        (["said.json", "opened.json"], "for a risk limit of 0.05; the session has a risk limit of 0.04.", f"This is what the assertion file says, {terms}"),
     ]:
         status, page, err = shows.run(*files)
         text, found = (text_of(page), text_of("<main>" + top_of(page))) if status == 0 else (err, "")
@@ -657,13 +660,13 @@ def pluralities(shows, tried):
     library = os.path.join(TOP, "examples", "library")
     files = {name: os.path.join(library, name) for name in sorted(os.listdir(library))}
     leads = "Ito leads by the records of 88 ballots, with 46 first preferences: at least 26 more than each other candidate."
-    behind, unread = "Ito leads: Mendez is 27 behind, Okafor is 26 behind. Nobody stands first on 3 ballots.", "give the ballot file too to read it"
-    holds, alone = "The assertions hold of these records: the program opened this audit again", "Counted by this page alone. Give the manifest too"
+    behind, unread = "Ito leads: Mendez is 27 behind, Okafor is 26 behind. Nobody is first on 3 ballots.", "give the ballot file too to read it"
+    holds, alone = "The assertions hold of these records: the program opened this audit again", "Counted only by this page. Give the manifest too"
     said, session, ballots, manifest = "SIGNED OFF in round 2, after 24 draws", "session.json", "ballots.raire", "manifest.csv"
     for words, kind, told, untold in [
         ([*files], "signed", [leads, behind, holds, "Another 2 drawn cards have no record, and nobody is ranked there: as a card that doesn’t have the contest. No assertion has a discrepancy. Main_23, Main_40"], [unread, alone]),
         ([session, ballots, manifest], "said", [leads, behind, holds], [unread, alone]), ([session, ballots], "said", [leads, behind, alone], [unread, holds]),
-        ([session], "said", [unread], [holds, alone]), ([session, manifest, "seen.csv"], "said", [unread, "session, ballot file and manifest are given too"], [holds, alone]),
+        ([session], "said", [unread], [holds, alone]), ([session, manifest, "seen.csv"], "said", [unread, "Give session, ballot file and manifest too"], [holds, alone]),
     ]:
         status, page, err = shows.run(*map(files.get, words))
         text, found = (text_of(page), states_of(page)) if status == 0 else (err, [])
@@ -706,7 +709,7 @@ def refused_pluralities(shows, tried, files):
         (["of_tie.json", "tie.raire"], 1, "show: tie.raire doesn't have the margins of of_tie.json"),
         ([files["session.json"], "assertions.json"], 1, "show: assertions.json isn't the assertion file of "),
         ([files["session.json"], *three, "--nodes=5"], 1, "show: --nodes is the budget of a check"),
-        ([files["session.json"], *three, "read.csv"], 1, "show: read.csv doesn't give the rounds of "),
+        ([files["session.json"], *three, "read.csv"], 1, "show: read.csv doesn't give round 1 of "),
         ([files["session.json"], *three, "less.csv"], 2, "raire: less.csv: V4 card "),
     ]:
         got = shows.run(*words)
@@ -718,7 +721,7 @@ def counted_pluralities(shows, tried, files):
     changed(files["ballots.raire"], "counted.raire", (",Okafor\n", ",Mendez\n"), ("3,Ito,Mendez,Mendez\n", "3,Ito,Mendez,Okafor\n"))
     write("tie_counted.raire", TIED)
     for name, head, count in [
-        ("counted.raire", "Ito wins by 88 ballots of counted.raire.", "Ito 46 Mendez 39 Okafor 0 Ito leads: Mendez is 7 behind, Okafor is 46 behind. Nobody stands first on 3 ballots."),
+        ("counted.raire", "Ito wins by 88 ballots of counted.raire.", "Ito 46 Mendez 39 Okafor 0 Ito leads: Mendez is 7 behind, Okafor is 46 behind. Nobody is first on 3 ballots."),
         ("tie_counted.raire", "tie_counted.raire leaves open who wins.", "Ito 0 Mendez 1 Okafor 1 Mendez and Okafor have 1 first preference each, and nobody has more."),
     ]:
         page = shows.run(*files.values(), name)[1]
@@ -764,7 +767,36 @@ def polls(shows, tried):
         tried.see(f"who won is said where it is confirmed: {words}", (confirms in text) == ("signed" in kinds) and " wins" not in text and "Heron leads" not in text, text[:500])
         tried.see(f"what the poll judged: {words}", ("seen file, judged by the program" in text) == judged == ("nothing was polled" not in text), text[-900:])
         tried.see(f"no margin is told: {words}", "Margin" not in text and "more than" not in text and "Clean draws" not in text, text[:900])
+    polls_of_each(shows, tried, files)
     refused_polls(shows, tried, files, terms)
+
+
+def polls_of_each(shows, tried, files):
+    """A poll that looks after each draw: the page has the draw that confirms each assertion, as the program's lines have it."""
+    for words, head in [
+        (["--draws=40", "--gamma=best"], "OPEN: not confirmed by a poll after 40 draws: "), (["--draws=300", "--gamma=best"], "CONFIRMED BY A POLL by draw "),
+        (["--draws=300", "--gamma=2000", "--limit=300000"], "CONFIRMED BY A POLL by draw "), (["--draws=300"], "OPEN: not confirmed by a poll after 300 draws: "),
+    ]:
+        given = [*files, f"--seed={SEED}", "--each", *words]
+        _, lines, _ = plain_audit.run(["poll", *given])
+        status, page, err = shows.run(*given)
+        text, claims = text_of(page) if status == 0 else err, [line for line in lines.splitlines() if " counts " in line]
+        states = [re.fullmatch(r".* gamma (\d+) counts (\d+) (\d+) (\d+) risk (\S+) (unconfirmed|confirmed \d+)", line).groups() for line in claims]
+        told = [state.replace("unconfirmed", "no").replace("confirmed", "by draw") for *_, state in states]
+        rows = [f"Gamma {int(state[0]):,} Draws against it, for neither side, for it {', '.join(state[1:4])} Risk {short(state[4])} Confirmed {said}" for state, said in zip(states, told)]
+        tried.see(f"each assertion of the poll {words}", all(text.count(row) == rows.count(row) for row in rows) and len(rows) == 5, (rows, text[:3000]))
+        last = max((int(said.rpartition(" ")[2]) for said in told if said != "no"), default=0)
+        tried.see(f"the state of the poll {words}", states_of(page)[0][2].startswith(f"{head}{last}." if head.startswith("CONF") else head), states_of(page))
+        tried.see(f"how gamma was found: {words}", ("Gamma the one that fits each margin" in text) == ("--gamma=best" in words), text[-1500:])
+    tells = "show: --seed, --draws, --limit and --gamma are of a poll or of all contests on one sample: give --seed, --draws, a manifest"
+    ballots, terms = os.path.join(TOP, "examples", "harbor", "ballots.raire"), [f"--seed={SEED}", "--draws=9"]
+    for words, told in [
+        ([*files, "--each"], tells), ([*files, *terms, "--each=1"], "show: --each has no value"), ([*files, *terms, "--each", "--each"], "show: --each is given twice"),
+        ([*files, *terms, "--gamma=best"], "show: --gamma needs a number from 1 to 500"), ([*files, *terms, "--each", "--gamma=1000001"], "show: --gamma needs a number from 1 to 1000000"),
+        ([*files, *terms, "--each", "--limit=best"], "show: --limit needs a number from 1 to"), ([ballots, files[0], "seen.csv", *terms, "--each"], "show: --each is of a poll, and"),
+    ]:
+        got = shows.run(*words)
+        tried.see(f"{words} are refused", got[:2] == (1, "") and got[2].startswith(told), got)
 
 
 def refused_polls(shows, tried, files, terms):
@@ -776,9 +808,9 @@ def refused_polls(shows, tried, files, terms):
     for words, status, told in [
         ([*files, *terms], 1, tells), ([*files, "--draws=9"], 1, tells), ([*files, "--limit=9"], 1, tells), ([*files[:2], *terms, "--draws=9"], 1, tells),
         *(([*files, other, *terms, "--draws=9"], 1, tells) for other in harbor_files.values()), ([harbor_files["ballots.raire"], "--gamma=9"], 1, tells),
-        ([*files, "--seed=", "--draws=9"], 1, "show: --seed wants a value"), ([*files, "--seed=\t", "--draws=9"], 1, "show: --seed wants 1 to 64 characters"),
-        ([*files, *terms, "--draws=0"], 1, "show: --draws wants a number from 1 to 100000"), ([*files, *terms, "--limit=1000000"], 1, "show: --limit wants a number from 1 to 999999"),
-        ([*files, "--seed=1", "--gamma=501"], 1, "show: --gamma wants a number from 1 to 500"), ([*files, *terms, "--draws=9", "--draws=9"], 1, "show: --draws stands twice"),
+        ([*files, "--seed=", "--draws=9"], 1, "show: --seed needs a value"), ([*files, "--seed=\t", "--draws=9"], 1, "show: --seed needs 1 to 64 characters"),
+        ([*files, *terms, "--draws=0"], 1, "show: --draws needs a number from 1 to 100000"), ([*files, *terms, "--limit=1000000"], 1, "show: --limit needs a number from 1 to 999999"),
+        ([*files, "--seed=1", "--gamma=501"], 1, "show: --gamma needs a number from 1 to 500"), ([*files, *terms, "--draws=9", "--draws=9"], 1, "show: --draws is given twice"),
         ([*files[:2], "less.csv", *terms, "--draws=150"], 2, "raire: less.csv: V2 at "), ([*files[:2], "one.csv", *terms, "--draws=150"], 2, "raire: one.csv: V4 card "),
     ]:
         got = shows.run(*words)
@@ -898,7 +930,7 @@ def refused_counties(shows, tried, files, terms):
         ([ballots, town, seen, *terms], 2, f"raire: {seen}: V2 at 1\n"), ([*files, terms[0], "--draws=100"], 2, f"raire: {seen}: V4 card "),
         ([*files, *terms, "--contest=Mayor"], 1, "show: --contest is of one contest"), ([*files, *terms, "--sets=5"], 1, "show: all contests on one sample have no --sets"), ([*files, "names.csv", *terms], 1, "show: names.csv names the candidates of one contest"),
         ([*files, "counted.raire", *terms], 1, "show: counted.raire is a full count of one contest"), ([*files, terms[0]], 1, tells), ([*files, terms[1]], 1, tells),
-        ([ballots, manifest, *terms], 1, tells), ([ballots, seen, *terms], 1, tells), ([*files, *terms, "--draws=0"], 1, "show: --draws stands twice"),
+        ([ballots, manifest, *terms], 1, tells), ([ballots, seen, *terms], 1, tells), ([*files, *terms, "--draws=0"], 1, "show: --draws is given twice"),
         ([*files, os.path.join(TOP, "examples", "town", "session.json"), *terms], 1, tells), (files, 2, f"raire: {ballots}: B5 at 1\n"),
     ]:
         got = shows.run(*words)
@@ -918,11 +950,11 @@ def cards(shows, tried):
     text = text_of(page)
     tried.see("a line of sums is counted", "960 cards by the manifest, 477 ballots on record, 483 cards without a record ." in text, text[:400])
     tried.see("and pointed at", "No ballot is of a card of this batch: Total (480 cards)." in text, text[:600])
-    one = "See that it is a box of cards, and no line of sums, and that its records are there."
+    one = "Make sure that it is a box of cards, and not a line of sums, and that its records are there."
     tried.see("and to be seen to", one in text, text[:700])
     with open("manifest.csv", "a") as file:
         file.write("Sum,480\n")
-    two = "See that they are boxes of cards, and no lines of sums, and that their records are there."
+    two = "Make sure that they are boxes of cards, and not lines of sums, and that their records are there."
     tried.see("two of them too", two in text_of(shows.run(ballots, "manifest.csv")[1]))
     tried.see("and in its row", re.search("Total 480 none 481 to 960", text) is not None, text[-900:])
 
@@ -961,15 +993,23 @@ def names(shows, tried):
         tried.see(f"no id stands where a name is: {files}", status == 0 and not left and "Zoë Œil" in text, (left, text[:500]))
         is_told = "c-one is Zoë Œil; c-two is Lee, Ann; c-three is <b>Ray</b>" in text_of(page) and "names, not judged by the program names.csv" in text_of(page)
         tried.see(f"who is who: {files}", is_told, text_of(page)[-500:])
+    write("cover.json", re.sub(r'"order":\[.*?\],', "", printed).replace('"version":1', '"version":3'))
+    told = "The file has no order, so nothing is said of a best margin"
+    for name, is_told in (("cover", True), ("assertions", False)):
+        status, page, err = shows.run("ballots.raire", f"{name}.json", "names.csv")
+        tried.see(f"whether the margin of {name}.json is said to be the best", status == 0 and (told in text_of(page)) == is_told, err or text_of(page)[:500])
     text = text_of(shows.run("ballots.raire", "order.json", "names.csv")[1])
     tried.see("an assertion of a check has names", re.search("no: order is refuted by NE[BN] (Zoë|Lee|<b>)", text) is not None, text[:500])
     page = shows.run(*whole, "names.csv")[1]
     tried.see("a card's ranking has names", "Lee, Ann > Zoë Œil" in text_of(page), text_of(page)[-900:])
     for text, told in [
         ("c-one,Zoë\n", "doesn't begin with a line id,name"), ("id,name\nc-one\n", "record 2 isn't id,name of a candidate"), ("id,name\nc-one,\n", "record 2 isn't"),
-        ("id,name\nc-one,A\nc-one,B\n", "record 3 is about c-one, who stood before"), ("contest,id,name\n8,c-one,A\n", "has no names for the candidates of contest 7"),
-        ("contest,id,name\n7,c-one,A\n7,c-one,B\n", "record 3 is about c-one, who stood before"), ("id,name\nc-four,A\n", "has a name for c-four, who is no candidate"),
-        ("id,name\nc-one,A\nc-two,A\n", "both c-one and c-two are called A"), ("id,name\nc-one,c-two\n", "both c-one and c-two are called c-two"),
+        ("id,name\nc-one,A\nc-one,B\n", "record 3 is about c-one, who came before"), ("contest,id,name\n8,c-one,A\n", "has no names for the candidates of contest 7"),
+        ("contest,id,name\n7,c-one,A\n7,c-one,B\n", "record 3 is about c-one, who came before"), ("id,name\nc-four,A\n", "has a name for c-four, who is no candidate"),
+        ("id,name\nc-one,A\nc-two,A\n", "record 2 calls c-one A, and record 3 calls c-two A; these names look alike"),
+        ("id,name\nc-one,c-two\n", "calls c-one c-two, and has no name for c-two; both look alike"), ("id,name\nc-one,C-Two\n", "calls c-one C-Two, and has no name for c-two"),
+        ("id,name\nc-one,Zo\u00eb\nc-two,Zoe\u0308\n", "these names look alike (case, blanks and letter forms don't count): give each another one, such as Zoe\u0308 (c-two)"),
+        ("id,name\nc-one,Ann Lee\nc-two,Ann  Lee\n", "these names look alike"), ("id,name\nc-one,Lee\nc-two,LEE\n", "these names look alike"),
         ("id,name\nc-one,A\u202eB\n", "record 2 isn't id,name of a candidate, with a name that can be shown"), ('id,name\nc-one,"A\n', "isn't comma-separated text"),
     ]:
         write("names.csv", text)
@@ -1027,7 +1067,7 @@ def ties(shows, tried):
         tried.see(f"the tie of {text}", got == 0 and (said in words if said else "share the least votes" not in words), words[:500])
         found = [number for number in (1, 2, 3) if f"Round {number} a tie" in words]
         tried.see(f"rounds with a tie are marked: {text}", found == marked, (found, marked))
-        told = "c d and e=1 f=2 share the least votes. Whoever of them goes first, a wins; c d , who stands first in the file, is eliminated"
+        told = "c d and e=1 f=2 share the least votes. Whichever of them goes first, a wins; c d , who is first in the file, is eliminated"
         tried.see(f"who goes, and that it doesn't matter: {text}", (told in words) == (2 in marked), words[:900])
     write_program("no_rounds", NO_ROUNDS)
     audits.write("ballots.raire", audits.BALLOTS)

@@ -41,6 +41,7 @@ def put(*changes):
     return text
 
 
+ORDER = '"order":["1","2"],'
 CARDS, GAMMA, LIMIT, RECORDS, VERSION, DRAWS = '"cards":5', '"gamma":100', '"limit":50000', '"records":5', '"version":2', '"draws":5,'
 
 # the assertion file, its status and what is said of it
@@ -52,6 +53,8 @@ CHECKED = [
     (put(DRAWS, '"draws":4,', '"margin":5,"winner"', '"margin":4,"winner"'), 6, "no: assertion 1 has margin 5\n"),
     (put(DRAWS, '"draws":4,', '"order":["1","2"]', '"order":["2","1"]'), 6, "no: order elects the winner\n"),
     (put(VERSION, '"version":1', DRAWS, '"draws":4,', CARDS, '"cards":"none"'), 0, YES),
+    (put(VERSION, '"version":3', ORDER, ""), 0, YES + "not said to be best\n"),
+    (put(VERSION, '"version":3', ORDER, "", DRAWS, '"draws":4,'), 6, "no: assertion 1 needs 5 draws\n"),
 ]
 # the assertion file, and the rule and the place that refuse it
 REFUSED = [
@@ -60,8 +63,8 @@ REFUSED = [
     (put(CARDS, '"cards":4294967296'), "F2 at 0"), (put(CARDS, '"cards":-5'), "F2 at 0"), (put(LIMIT, '"limit":5e4'), "F2 at 0"),
     (put(DRAWS, '"draws":"5",'), "F2 at 1"), (put(DRAWS, '"draws":5.0,'), "F2 at 1"), (put(DRAWS, '"draws":false,'), "F2 at 1"),
     (put(DRAWS, '"draws":[5],'), "F2 at 1"), (put(DRAWS, '"draws":4294967296,'), "F2 at 1"), (put(DRAWS, '"draws":-1,'), "F2 at 1"),
-    (put(VERSION, '"version":0'), "F3 at 0"), (put(VERSION, '"version":3'), "F3 at 0"), (put(VERSION, '"version":null'), "F2 at 0"),
-    (put(VERSION, '"version":3', f"{CARDS},", ""), "F3 at 0"), (put(f"{CARDS},", "", '"contest":"1"', '"contest":""'), "F2 at 0"),
+    (put(VERSION, '"version":0'), "F3 at 0"), (put(VERSION, '"version":4'), "F3 at 0"), (put(VERSION, '"version":3'), "F2 at 0"), (put(VERSION, '"version":null'), "F2 at 0"),
+    (put(VERSION, '"version":4', f"{CARDS},", ""), "F3 at 0"), (put(f"{CARDS},", "", '"contest":"1"', '"contest":""'), "F2 at 0"),
     (put(CARDS, '"cards":4'), "F6 at 0"), (put(CARDS, '"cards":0'), "F6 at 0"), (put(CARDS, f'"cards":{MOST_CARDS + 1}'), "F6 at 0"),
     (put(GAMMA, '"gamma":0'), "F6 at 0"), (put(GAMMA, f'"gamma":{GREATEST_GAMMA + 1}'), "F6 at 0"), (put(LIMIT, '"limit":0'), "F6 at 0"),
     (put(LIMIT, f'"limit":{GREATEST_LIMIT + 1}'), "F6 at 0"), (put(RECORDS, '"records":6'), "F6 at 0"), (put(DRAWS, '"draws":0,'), "F6 at 1"),

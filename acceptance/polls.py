@@ -2,16 +2,17 @@
 """Compares ballot polls of the built program with the plain poll.
 
 acceptance/polls.py PROGRAM [POLLS] [SEEDS] first goes through polls that were worked out by hand. Then it makes so many others, 1,000 if no
-number is given: assertions of a contest of 2 to 5 candidates, now and then of 21 to 32, a manifest, and what was seen of the cards; in half of them something
-is damaged. Status and both texts have to agree with plain_poll.py, and each risk that is printed has to be at least the exact one, and
-no more than its roundings above it. Last come contests whose cards elect another candidate than the assertions prove, or could by
-breaking a tie: of so many seeds each, 2,000 if no number is given, few may confirm them, at whichever draw.
+number is given, half of them with a look after each draw: assertions of a contest of 2 to 5 candidates, now and then of 21 to 32, a manifest, and what was
+seen of the cards; in half of them something is damaged. Status and both texts have to agree with plain_poll.py, and each risk that is printed has to be at
+least the exact one, and no more than its roundings above it. Last come contests whose cards elect another candidate than the assertions prove, or could by
+breaking a tie: of so many seeds each, 2,000 if no number is given, few may confirm them, at whichever draw; with a look after each draw at four gammas.
 """
 import collections
 import json
 import math
 import multiprocessing
 import os
+import re
 import sys
 from fractions import Fraction
 
@@ -34,18 +35,34 @@ def table(draws, counts, risk, is_confirmed):
     return (0 if is_confirmed else 10), lines("cards 1", f"draws {draws}", "limit 50000", "gamma 100", told, f"confirmed {last}"), ""
 
 
+def each_table(draws, gamma, end, is_confirmed):
+    told = lines("contest 7", "winner 1", "cards 1", f"draws {draws}", "limit 50000", f"gamma {gamma}", "seed 2024", f"NEB 1 2 {end}")
+    return (0 if is_confirmed else 10), told + f"confirmed {'yes' if is_confirmed else 'no'}\n", ""
+
+
 def one_card(runs):
     write("manifest.csv", audits.MANIFEST)
     write("assertions.json", audits.ASSERTIONS)
     write("seen.csv", audits.SEEN)
     runs.row(f"{POLL} 4", table(4, "0 0 4", "0.088518543815313162", False))
     runs.row(f"{POLL} 5", table(5, "0 0 5", "0.048282842081079907", True))
+    runs.row(f"{POLL} 4 --each", each_table(4, 100, "gamma 100 counts 0 0 4 risk 0.088518543815313162 unconfirmed", False))
+    runs.row(f"{POLL} 9 --each", each_table(9, 100, "gamma 100 counts 0 0 5 risk 0.048282842081079907 confirmed 5", True))
+    runs.row(f"{POLL} 9 --gamma best --each", each_table(9, "best", "gamma 1 counts 0 0 5 risk 0.031406406093750188 confirmed 5", True))
+    runs.row(f"{POLL} 9 --gamma=1000000 --each", each_table(9, 1000000, "gamma 1000000 counts 0 0 9 risk 0.995513467070736321 unconfirmed", False))
+    for words in ("--gamma best", "--gamma=501", "--each=", "--each --each", "--each --gamma=1000001", "--each --gamma=0", "--each 1"):
+        runs.row(f"{POLL} 9 {words}", (1, "", "raire: bad words\n"))
     write("seen.csv", "b_1,missing\n")
+    runs.row(f"{POLL} 1 --each", each_table(1, 100, "gamma 100 counts 1 0 0 risk 6.000000000000000000 unconfirmed", False))
+    # after the eighth draw the risk is above a million, and stays as it is
+    runs.row(f"{POLL} 8 --each", each_table(8, 100, "gamma 100 counts 8 0 0 risk 1679616.000000000000000000 unconfirmed", False))
+    runs.row(f"{POLL} 20 --each", each_table(20, 100, "gamma 100 counts 20 0 0 risk 1679616.000000000000000000 unconfirmed", False))
     runs.row(f"{POLL} 1", table(1, "1 0 0", "1.000000000000000000", False))
     write("seen.csv", "b_1,ballot\n")
     runs.row(f"{POLL} 3", table(3, "0 3 0", "1.000000000000000000", False))
     write("seen.csv", "")
     runs.row(f"{POLL} 1", (2, "", "raire: seen.csv: V4 card 1 draw 1\n"))
+    runs.row(f"{POLL} 1 --each", (2, "", "raire: seen.csv: V4 card 1 draw 1\n"))
     write("seen.csv", "b_1,ballot,3\n")
     runs.row(f"{POLL} 1", (2, "", "raire: seen.csv: V5 at 1\n"))
     write("assertions.json", audits.ASSERTIONS.replace('[{"kind":"NEB","loser":"2","margin":1,"winner":"1"}]', "[]"))
@@ -65,9 +82,16 @@ def options_of(draws):
     words = ["--seed", one_of(draws, ["2024", 'a "seed"', "a, b\\c"]), "--draws", str(1 + draws.below(one_of(draws, [5, 40, 400])))]
     if draws.below(2):
         words += ["--limit", str(1 + draws.below(900_000))]
+    is_each = draws.below(2)
+    words += ["--each"] * is_each
     if draws.below(2):
-        words += ["--gamma", str(1 + draws.below(500))]
+        words += ["--gamma", gamma_of(draws, is_each)]
     return words + (["--nodes", str(1 + draws.below(4))] if draws.below(4) == 0 else [])
+
+
+def gamma_of(draws, is_each):
+    """A gamma, and with the flag also a larger one, or the one that fits."""
+    return one_of(draws, ["best", str(1 + draws.below(10_000)), str(1 + draws.below(1_000_000))]) if is_each else str(1 + draws.below(500))
 
 
 def poll(runs, draws):
@@ -82,7 +106,7 @@ def poll(runs, draws):
         one_of(draws, DAMAGES)(draws)
     words = options_of(draws)
     answer = runs.run(["poll", "manifest.csv", "assertions.json", "seen.csv", *words])
-    if answer[0] in (0, 10) and not are_right(answer[1], draws_in(words)):
+    if answer[0] in (0, 10) and not (are_each_right if "--each" in words else are_right)(answer[1], draws_in(words)):
         runs.differ(words, "risks at and a little above the exact ones", answer)
 
 
@@ -99,6 +123,19 @@ def are_right(text, draws):
         counts, units = [int(n0), int(n1), int(n2)], int(told.replace(".", ""))
         least = min(plain_poll.exact_risk(counts, gamma) * plain_poll.UNIT, plain_poll.UNIT)
         if sum(counts) != draws or not least <= units <= least + draws * Fraction(500 + gamma, gamma) ** counts[0]:
+            return False
+    return True
+
+
+def are_each_right(text, draws):
+    """The counts are of the draws up to the one that confirms, or of all. No risk is below the exact one, or one that stays is above a million."""
+    for line in text.splitlines()[7:-1]:
+        told = re.fullmatch(r".* gamma (\d+) counts (\d+) (\d+) (\d+) risk ([\d.]+) (?:confirmed (\d+)|unconfirmed)", line)
+        gamma, *counts = map(int, told.groups()[:4])
+        units, at = int(told[5].replace(".", "")), int(told[6] or draws)
+        least = plain_poll.exact_risk(counts, gamma) * plain_poll.UNIT
+        most = least + draws * Fraction(500 + gamma, gamma) ** counts[0]
+        if sum(counts) != at or not (least <= units <= most or units > plain_poll.CEILING):
             return False
     return True
 
@@ -125,6 +162,9 @@ WRONG = {
     "a tie of the last two of three": ("123", ["1"] * 8 + ["21"] * 8 + ["3", "31", "32"], THREE, 100_000, 500),
 }
 MOST_LOOKED_AT = 300
+
+# with a look after each draw, the gammas of each of them
+EACH_GAMMAS = 100, 500, 4_500, "best"
 
 
 def file_of(ids, claims):
@@ -163,7 +203,29 @@ def seeds(job):
             confirmed.append(at is not None)
 
     audits.in_folder(each_seed)
-    return shows, sum(confirmed), runs
+    return shows, limit, gamma, sum(confirmed), runs
+
+
+def each_seeds(job):
+    """The same with a look after each draw, for one gamma: a call a seed."""
+    program, shows, given, low, high = job
+    ids, rankings, claims, limit, _ = WRONG[shows]
+    gamma = plain_poll.best_gamma(len(rankings), 1) if given == "best" else given
+    runs, confirmed = audits.Runs(program), []
+
+    def each_seed():
+        values = write_wrong(ids, rankings, claims)
+        for seed in range(low, high):
+            drawn = [plain_audit.drawn(seed, k, len(rankings)) - 1 for k in range(1, MOST_LOOKED_AT + 1)]
+            is_confirmed = all(plain_poll.end_of([each[card] for card in drawn], limit, gamma)[2] for each in values)
+            words = ["poll", "manifest.csv", "assertions.json", "seen.csv", f"--seed={seed}", f"--limit={limit}", f"--gamma={given}", "--each"]
+            answer = runs.run([*words, f"--draws={MOST_LOOKED_AT}"])
+            if answer[0] != (0 if is_confirmed else 10):
+                runs.differ(words, f"confirmed: {is_confirmed}", answer)
+            confirmed.append(is_confirmed)
+
+    audits.in_folder(each_seed)
+    return f"{shows}, each draw", limit, given, sum(confirmed), runs
 
 
 def most_of(count, limit):
@@ -174,14 +236,16 @@ def most_of(count, limit):
 
 def wrong_winners(pool, runs, count):
     """Polls of cards that elect another candidate: few of the seeds may confirm the assertions."""
-    jobs = [(runs.program, shows, count * part // 4, count * (part + 1) // 4) for shows in WRONG for part in range(4)]
+    spans = [(count * part // 4, count * (part + 1) // 4) for part in range(4)]
+    ends = [pool.apply_async(seeds, [(runs.program, shows, *span)]) for shows in WRONG for span in spans]
+    ends += [pool.apply_async(each_seeds, [(runs.program, shows, gamma, *span)]) for shows in WRONG for gamma in EACH_GAMMAS for span in spans]
     found = collections.Counter()
-    for shows, confirmed, others in pool.imap(seeds, jobs):
-        found[shows] += confirmed
+    for end in ends:
+        shows, limit, gamma, confirmed, others = end.get()
+        found[shows, limit, gamma] += confirmed
         runs.failed += others.failed
         runs.statuses += others.statuses
-    for shows, confirmed in found.items():
-        *_, limit, gamma = WRONG[shows]
+    for (shows, limit, gamma), confirmed in found.items():
         most = most_of(count, limit)
         print(f"{shows}: limit {limit}, gamma {gamma}: {confirmed} of {count} seeds confirm a wrong winner; at most {most} may")
         runs.failed += confirmed > most

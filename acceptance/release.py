@@ -113,10 +113,12 @@ def by_the_script(folder):
     yield "without a program nothing is released", (status, out) == (70, "") and err.endswith("release: there is no program to release\n")
     with open(os.path.join(clone, "another"), "w") as file:
         file.write("1\n")
-    told = "release: a file of the folder is new or another one than in the commit: git status tells which\n"
+    told = "release: a file of the folder is new or differs from the commit: git status shows which\n"
     yield "a folder that was changed isn't released", ran(clone, "./raire", "release") == (1, "", told)
     status, out, err = ran(clone, "./raire", "release", "a", "b")
     yield "two folders are no words", (status, out) == (1, "") and err.startswith("release: ")
+    told = "release: there is no folder no_such: make it first\n"
+    yield "a folder that isn't there is told", ran(clone, "./raire", "release", "no_such") == (1, "", told)
     yield "nothing was written", not [name for name in os.listdir(clone) if name.endswith(".gz")]
 
 

@@ -98,12 +98,12 @@ def helps(copy):
         name = page[: -len(".txt")]
         for words in [(), ("help",), ("--help",), ("-h",)] if name == "raire" else [("help", name)]:
             yield f"help {words}", copy.run(*words) == wanted
-    told = "raire: no command is called ../formats; ./raire help tells them\n"
+    told = "raire: there is no command ../formats; ./raire help lists them\n"
     yield "help of no command", copy.run("help", "../formats") == (1, "", told)
-    told = "raire: no command is called ; ./raire help tells them\n"
+    told = "raire: there is no command ; ./raire help lists them\n"
     yield "help of a word without letters", copy.run("help", "") == (1, "", told)
     for word in ("--help", "-h", "--version", "--build"):
-        yield f"words behind {word}", copy.run(word, "search") == (1, "", f"raire: no words belong behind {word}\n")
+        yield f"words behind {word}", copy.run(word, "search") == (1, "", f"raire: no words may follow {word}\n")
     told = "raire: help takes the name of one command, as in ./raire help check\n"
     yield "help of two words", copy.run("help", "check", "search") == (1, "", told)
     with open(os.path.join(TOP, "VERSION")) as file:
@@ -248,12 +248,12 @@ def options_are_told(program):
         with open(os.path.join(pages, page)) as file:
             heads = [line.replace("[", "").replace("]", "").split() for line in file.read().split("\n\n")[0].splitlines()]
         for _, *head in heads:
-            if command in ("raire", *TOOLS):
+            if command in ("raire", *TOOLS) or (command, "--poll" in head) == ("plan", True):  # the script runs a tool for it
                 continue
-            values = {"ID": "1", "N": "2", "SEED": "1"}
+            values = {"ID": "1", "N": "2", "N|best": "best", "SEED": "1"}
             words = [values.get(word, word if word == command or word.startswith("-") else "no_such_file") for word in head if word != "|"]
             lines = [words]
-            if "--sets" in head:  # it stands in place of --nodes
+            if {"--sets", "--nodes"} <= set(head):  # the one takes the place of the other
                 ran = subprocess.run([program, *words], capture_output=True, text=True)
                 yield f"the line {' '.join(words)} isn't one: it has both budgets", ran.returncode == 1
                 lines = [words[:at] + words[at + 2:] for at in map(words.index, ("--nodes", "--sets"))]

@@ -1,5 +1,5 @@
 #!/usr/bin/env python3
-"""Tries what ./raire shows on a terminal while the program runs, by pseudo terminals.
+"""Tries what ./raire shows on a terminal while the program or a tool of the office runs, by pseudo terminals.
 
 acceptance/shown.py PROGRAM has a stand-in sleep and print, and looks at every byte that the terminal and the files get, at the status and at what
 is left on the terminal's last line; by Ctrl-C too. Closed pipes and full disks are tried with PROGRAM. The last line says how many came out as they should.
@@ -19,13 +19,15 @@ import places  # noqa: F401
 import walk
 
 SLOW = 3.3  # seconds, of which the last one or so has the line
-PATIENCE = 60
+PATIENCE = 600
 STAND_IN = """#!/bin/bash
 [ "$1" != slow ] || sleep {seconds}
 printf 'one\\ntwo\\n'
 [ "$2" = none ] || printf 'raire: a refusal\\n' >&2
 exit 3
 """
+OF_TOOLS = rb"\r\x1b\[\?7lraire: (?:convert|agree|boxes) [^\r\n]*: [0-9]+ s, [0-9]+ MB(?:, ([0-9]+) percent of [^\r\n]* read)?; Ctrl-C stops it\x1b\[K\x1b\[\?7h"
+EXPORTED = 500_000  # cards of an export that takes some seconds
 LINE = rb"\r\x1b\[\?7lraire: slow[^\r\n]*: [0-9]+ s, [0-9]+ MB; Ctrl-C stops it\x1b\[K\x1b\[\?7h"
 GONE = b"\r\x1b[K"
 OUT, ERR, STATUS = b"one\ntwo\n", b"raire: a refusal\n", 3
@@ -53,7 +55,7 @@ def take_terminal():
             return
 
 
-def ran(words, out=None, err=None, press=None, **given):
+def ran(words, out=None, err=None, press=None, line=LINE, **given):
     """Status, all that the terminal got, and the seconds. `out` and `err` are files in place of the terminal; Ctrl-C is pressed once the line is there."""
     with terminal() as (own, other):
         env = {**{name: value for name, value in os.environ.items() if name not in ("RAIRE_QUIET", "RAIRE")}, "TERM": "xterm", **given}
@@ -68,7 +70,7 @@ def ran(words, out=None, err=None, press=None, **given):
                 except OSError:  # the other end was closed by all
                     break
                 got += data
-                if press and re.search(LINE, got):
+                if press and re.search(line, got):
                     os.write(own, press)
                     press = None
             elif begun.poll() is not None and (out and err):
@@ -87,9 +89,9 @@ class Tried:
             print(f"shown: {shows}: not so {told}")
 
 
-def is_shown(got, then):
+def is_shown(got, then, line=LINE):
     """The line, once or more, then nothing of it, then these bytes."""
-    return re.fullmatch(b"(?:" + LINE + b")+" + re.escape(GONE + then), got) is not None
+    return re.fullmatch(b"(?:" + line + b")+" + re.escape(GONE + then), got) is not None
 
 
 def shown(tried, script, folder):
@@ -117,6 +119,37 @@ def shown(tried, script, folder):
         tried.see("where standard error is a file, nothing is shown", got[:2] == (STATUS, OUT) and file.read() == ERR, got)
     done = subprocess.run([script, "slow"], capture_output=True)
     tried.see("without a terminal nothing is shown", (done.returncode, done.stdout, done.stderr) == (STATUS, OUT, ERR))
+
+
+def tools(tried, folder):
+    """A tool of the office shows how much of an export it has read, and what it waits for."""
+    export, out = os.path.join(folder, "export.csv"), os.path.join(folder, "out")
+    with open(export, "w") as file:
+        file.write("id,1,2\n")
+        file.writelines(f"b{number // 1000}_{number % 1000 + 1},Ash,Birch\n" for number in range(EXPORTED))
+    words = [os.path.join(walk.TOP, "tools", "convert"), "plain", export]
+    with open(out, "wb") as file:
+        status, got, _ = ran(words, out=file, RAIRE_QUIET="1")
+    tried.see("a tool shows nothing where RAIRE_QUIET is set", status == 0 and got.startswith(b"./raire convert plain ") and b"\r" not in got, (status, got[:200]))
+    account = got
+    with open(out, "wb") as file:
+        status, got, _ = ran(words, out=file)
+    tried.see("a tool shows a line, which goes away", status == 0 and is_shown(got, account, OF_TOOLS), (status, got[-500:]))
+    shares = [int(share) for share in re.findall(OF_TOOLS, got) if share]
+    tried.see("the share of the file that is read rises", shares == sorted(shares) and shares and 0 < shares[0] <= shares[-1] <= 100, shares)
+    with open(out, "wb") as file:
+        status, got, _ = ran(words, out=file, press=b"\x03", line=OF_TOOLS)
+    tried.see("Ctrl-C ends a tool as its signal does", status == -2 and is_shown(got, b"", OF_TOOLS) and os.path.getsize(out) == 0, (status, got))
+    done = subprocess.run([os.path.join(walk.TOP, "tools", "convert"), "plain", export], capture_output=True)
+    tried.see("without a terminal a tool shows nothing", (done.returncode, done.stderr) == (0, account), done.stderr[:200])
+    slow, ballots = os.path.join(folder, "slow"), os.path.join(folder, "b.raire")
+    with open(slow, "w") as file:
+        file.write(f"#!/bin/bash\nsleep {SLOW}\nprintf 'raire: a refusal\\n' >&2\nexit 2\n")
+    os.chmod(slow, 0o755)
+    with open(ballots, "w") as file:
+        file.write("1\nContest,1,2,a,b\n1,b_1,a\n")
+    status, got, _ = ran([os.path.join(walk.TOP, "tools", "boxes"), ballots, ballots], RAIRE=slow)
+    tried.see("a tool that asks the program shows a line", status == 2 and is_shown(got, ERR, OF_TOOLS), (status, got))
 
 
 def stopped(tried, script, folder):
@@ -162,7 +195,8 @@ def main():
         shown(tried, script, folder)
         stopped(tried, script, folder)
         failing_outputs(tried, own, program)
-    print(f"{tried.count - tried.failed} things that ./raire shows while the program runs as they should be, {tried.failed} not")
+        tools(tried, folder)
+    print(f"{tried.count - tried.failed} things that ./raire shows while the program or a tool runs as they should be, {tried.failed} not")
     sys.exit(1 if tried.failed else 0)
 
 

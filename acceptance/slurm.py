@@ -1,6 +1,7 @@
 """A Slurm of two nodes on the loopback of this machine, begun and ended by a test: munged, slurmctld and two slurmd of the distribution."""
 import contextlib
 import os
+import re
 import secrets
 import shutil
 import signal
@@ -32,7 +33,7 @@ SelectType=select/cons_tres
 SelectTypeParameters=CR_CPU
 SchedulerParameters=sched_min_interval=100000,batch_sched_delay=0
 ReturnToService=2
-MinJobAge=300
+MinJobAge=100000
 KillWait=5
 InactiveLimit=0
 SlurmdTimeout=30
@@ -57,6 +58,21 @@ def free_ports(count):
         for end in ends:
             end.bind(("127.0.0.1", 0))
         return [end.getsockname()[1] for end in ends]
+
+
+def kill_all(numbers):
+    for number in numbers:
+        with contextlib.suppress(ProcessLookupError):
+            os.kill(number, signal.SIGKILL)
+
+
+def parent_that_keeps_jobs(number):
+    """The slurmstepd of a job's process, if that is its parent."""
+    with contextlib.suppress(OSError):
+        with open(f"/proc/{number}/stat") as file:
+            parent = file.read().rpartition(") ")[2].split()[1]
+        with open(f"/proc/{parent}/comm") as file:
+            return int(parent) if file.read().startswith("slurmstepd") else None
 
 
 class Slurm:
@@ -113,6 +129,41 @@ class Slurm:
 
     def said(self, *words):
         return subprocess.run(words, capture_output=True, text=True, env=self.given, timeout=SECONDS).stdout
+
+    def jobs(self, *more):
+        """The numbers of the jobs that run."""
+        return self.said("squeue", "--noheader", "--states=R", "--format=%A", *more).split()
+
+    def end_of(self, job):
+        """How a job ended, and on which node."""
+        text = self.said("scontrol", "--oneliner", "show", "job", job)
+        return tuple((re.search(rf" {name}=(\S+)", text) or ["", ""])[1] for name in ("JobState", "NodeList"))
+
+    def processes(self, name, value):
+        """The numbers of the processes of a job, or of all jobs of a node, by a variable that Slurm gives them."""
+        for number in filter(str.isdigit, os.listdir("/proc")):
+            with contextlib.suppress(OSError):
+                with open(f"/proc/{number}/environ", "rb") as file:
+                    given = file.read().split(b"\0")
+                if f"{name}={value}".encode() in given and f"SLURM_CONF={self.given['SLURM_CONF']}".encode() in given:
+                    yield int(number)
+
+    def kill(self, job):
+        """Kills all processes of a job, once it has some; whether it had."""
+        numbers, end = [], time.monotonic() + SECONDS
+        while not numbers and self.end_of(job)[0] == "RUNNING" and time.monotonic() < end:
+            numbers = list(self.processes("SLURM_JOB_ID", job))
+        kill_all(numbers)
+        return bool(numbers)
+
+    def lose(self, node):
+        """Kills a node's slurmd with all that runs there, as if the machine went down; the jobs that it had."""
+        jobs = self.jobs(f"--nodelist={node}")
+        self.nodes[node].kill()
+        numbers = list(self.processes("SLURMD_NODENAME", node))
+        kill_all({*map(parent_that_keeps_jobs, numbers)} - {None})
+        kill_all(numbers)
+        return jobs
 
     def told(self):
         """The last line of each log."""

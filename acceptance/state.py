@@ -1,18 +1,16 @@
 #!/usr/bin/env python3
 """Tries ./raire state: on the processors of this machine, and on a Slurm of two nodes that this script begins and ends.
 
-acceptance/state.py PROGRAM [CONTESTS [COUNTIES]] first goes through a small state by hand: each output is compared with the same command typed, and refused
-files and tables with their lines. Then it makes a state, of 24 contests in 8 counties if no number is given, runs it, runs a copy that is killed in
-the middle and cut off, and one on Slurm, where a job is cancelled and another one is killed: the digests have to be the same, and what was whole isn't made
-anew. The last line says how many things were as they should be. Where Snakemake or Slurm isn't here, what needs it isn't tried, and a line says so.
+acceptance/state.py PROGRAM [CONTESTS [COUNTIES [INSTANTS]]] first goes through a small state by hand: each output is compared with the same command
+typed, and refused files and tables with their lines. Then come programs that answer by each status. Then it makes a state, of 24 contests in 8 counties
+if no number is given, runs it, runs a copy that is killed at 4 instants and cut off, and one on Slurm, where a job is cancelled, another one is killed,
+and a node is lost: the digests have to be the same, and what was whole isn't made anew. The last line says how many things were as they should be. Where
+Snakemake or Slurm isn't here, what needs it isn't tried, and a line says so.
 """
-import contextlib
-import csv
 import os
 import re
 import shlex
 import shutil
-import signal
 import subprocess
 import sys
 import tempfile
@@ -20,13 +18,10 @@ import time
 
 import made_state
 import places  # noqa: F401
-import slurm
-import walk
+from state_answers import by_status
+from state_ended import cut_off, on_slurm
+from state_folder import CALL, copy_of, put, read, rows, times, TOP, Tried
 
-TOP = walk.TOP
-EXAMPLES = os.path.join(TOP, "examples")
-CALL = os.path.join(TOP, "tools", "state")
-PATIENCE = 1800
 JOBS = 25  # about this many on Slurm, each with three contests or more
 COUNTY_SEED, TOWN_SEED = "2026-11-03 dice 5 1 4 4 2 6 3 1", "2026-11-03 dice 2 6 1 4 5 5 3 1"
 TERMS = f"""\
@@ -39,56 +34,6 @@ o'neil,,,,,,,,2,,
 assembly,,,,,,,,,3,
 """
 TOWN = "Town+council+seat+3"
-
-
-class Tried:
-    def __init__(self, program):
-        self.program, self.count, self.failed = program, 0, 0
-
-    def see(self, shows, holds, told=""):
-        self.count += 1
-        if not holds:
-            self.failed += 1
-            print(f"state: {shows}: not so {str(told)[-2000:]}")
-
-    def words(self, folder, *more):
-        return [CALL, folder, *more]
-
-    def given(self, more=()):
-        return {**os.environ, "RAIRE": self.program, **dict(more)}
-
-    def run(self, folder, *more, given=()):
-        """Status and both texts."""
-        done = subprocess.run(self.words(folder, *more), capture_output=True, text=True, stdin=subprocess.DEVNULL, env=self.given(given), timeout=PATIENCE)
-        return done.returncode, done.stdout, done.stderr
-
-
-def put(folder, *parts, text=None, of=None):
-    path = os.path.join(folder, *parts)
-    os.makedirs(os.path.dirname(path), exist_ok=True)
-    if of:
-        shutil.copy(os.path.join(EXAMPLES, of), path)
-    else:
-        with open(path, "w") as file:
-            file.write(text)
-
-
-def read(*parts):
-    with open(os.path.join(*parts), "rb") as file:
-        return file.read()
-
-
-def rows(folder):
-    with open(os.path.join(folder, "made", "summary.csv"), newline="") as file:
-        return {(row["county"], row["contest"]): row for row in csv.DictReader(file)}
-
-
-def times(folder):
-    """The time of each output of contests and counties."""
-    return {
-        os.path.join(place, name): os.stat(os.path.join(place, name)).st_mtime_ns
-        for part in ("contests", "counties") for place, _, names in os.walk(os.path.join(folder, "made", part)) for name in names
-    }
 
 
 # ---- by hand
@@ -138,11 +83,12 @@ def by_hand(tried, folder):
     tried.see("the state by hand is done", status == 0, (status, out, err))
     found = rows(folder)
     wanted = {
-        ("tied", "1"): "tie", ("county", "Council ward 2"): "tie", ("assembly", "2026"): "spent", ("county", "Sheriff"): "full count", ("o'neil", "339"): "full count",
-        ("county", "Mayor"): "signed off", ("county", "Council ward 1"): "signed off", ("county", "School board seat 4"): "signed off", ("town", "Town council seat 3"): "signed off",
+        "tie": [("tied", "1"), ("county", "Council ward 2")], "full count": [("county", "Sheriff"), ("o'neil", "339")],
+        "signed off": [("county", "Mayor"), ("county", "Council ward 1"), ("county", "School board seat 4"), ("town", "Town council seat 3")],
     }
-    tried.see("each contest has its state", {key: row["state"] for key, row in found.items() if key[0] != "assembly"} == {key: state for key, state in wanted.items() if key[0] != "assembly"}, found)
-    tried.see("a budget of the table is kept", [row["state"] for key, row in found.items() if key[0] == "assembly"] == ["spent"], found)
+    states = {key: row["state"] for key, row in found.items()}
+    tried.see("a budget of the table is kept", [states.pop(key) for key in found if key[0] == "assembly"] == ["spent"], found)
+    tried.see("each contest has its state", states == {key: state for state, keys in wanted.items() for key in keys}, found)
     order = [row["state"] for row in found.values()]
     states = ["tie", "spent", "full count", "signed off"]
     tried.see("those that need a hand are first", order == sorted(order, key=states.index), order)
@@ -158,7 +104,8 @@ def by_hand(tried, folder):
     tried.see("the digests are those of the files", done.returncode == 0, done.stdout + done.stderr)
     page = read(folder, "made", "index.html").decode()
     links = re.findall('href="([^"]+)"', page)
-    tried.see("the page opens the page of each contest", len(links) == len(found) + 1 and all(os.path.exists(os.path.join(folder, "made", decoded(link))) for link in links), links)
+    opens = all(os.path.exists(os.path.join(folder, "made", decoded(link))) for link in links)
+    tried.see("the page opens the page of each contest", len(links) == len(found) + 1 and opens, links)
     again(tried, folder)
     refused(tried, folder)
 
@@ -185,6 +132,11 @@ def again(tried, folder):
         if cut:
             with open(path, "wb") as file:
                 file.write(cut(data))
+    for words, of in ((["--", "--dry-run"], "of a dry run"), (["--profile", "nowhere"], "where there is no such profile")):
+        status, out, err = tried.run(folder, "--group", "3", *words)
+        now = times(folder)
+        gone = [path for path in before if now.get(path) != before[path] and os.path.relpath(path, folder) not in names]
+        tried.see(f"{of} nothing comes, and what is whole stays", status == 1 and " failed, " in out and not gone, (out, err, gone))
     status, _, err = tried.run(folder, "--group", "3")
     after = times(folder)
     changed = {os.path.relpath(path, folder) for path in after if after[path] != before.get(path)}
@@ -193,12 +145,21 @@ def again(tried, folder):
 
 
 BAD_TERMS = [
-    ("county,conteste\n", "line 1: no column is called conteste"), ("contest\n", "line 1: there is no column county"), ("county,county\n", "line 1: a column is there twice"),
-    ("county,audit\nnone,none\n", "line 2: there is no folder counties/none"), ("county,contest\ntown,Mayor\n", "line 2: no contest of counties/town/ballots.raire is called Mayor"),
-    ("county,audit\ntown,contest\n", "line 2: audit is one of"), ("county,limit\ntown,5\ntown,6\n", "line 3: the row of line 2 is about the same"),
-    ("county,limit\ntown,0\n", "line 2: limit is a number from 1 to"), ("county,draws\ntown,90 40\n", "line 2: draws are rising numbers"), ("county,trim\ntown,maybe\n", "line 2: trim is yes or no"),
-    ("county,seed\ntown,é\n", "line 2: a seed is"), ("county,limit\ntown\n", "line 2: it has another number of cells"), ("county,contest,audit\n*,Mayor,none\n", "line 2: a row with the county *"),
-    ("county,contest,audit\ncounty,Mayor,contests\n", "line 2: contests audits all contests"), ("county,contest,audit,limit\ncounty,,contests,\ncounty,Mayor,,7\n", "line 3: contests audits this contest"),
+    ("county,conteste\n", "line 1: no column is called conteste"),
+    ("contest\n", "line 1: there is no column county"),
+    ("county,county\n", "line 1: a column is there twice"),
+    ("county,audit\nnone,none\n", "line 2: there is no folder counties/none"),
+    ("county,contest\ntown,Mayor\n", "line 2: no contest of counties/town/ballots.raire is called Mayor"),
+    ("county,audit\ntown,contest\n", "line 2: audit is one of"),
+    ("county,limit\ntown,5\ntown,6\n", "line 3: the row of line 2 is about the same"),
+    ("county,limit\ntown,0\n", "line 2: limit is a number from 1 to"),
+    ("county,draws\ntown,90 40\n", "line 2: draws are rising numbers"),
+    ("county,trim\ntown,maybe\n", "line 2: trim is yes or no"),
+    ("county,seed\ntown,é\n", "line 2: a seed is"),
+    ("county,limit\ntown\n", "line 2: it has another number of cells"),
+    ("county,contest,audit\n*,Mayor,none\n", "line 2: a row with the county *"),
+    ("county,contest,audit\ncounty,Mayor,contests\n", "line 2: contests audits all contests"),
+    ("county,contest,audit,limit\ncounty,,contests,\ncounty,Mayor,,7\n", "line 3: contests audits this contest"),
     ('county,"limit\n', "terms.csv: "),
 ]
 
@@ -219,9 +180,15 @@ def refused(tried, folder):
         file.write(b"7,b_1,1\n")
     with open(seen, "ab") as file:
         file.write(b"P1_1\n")
-    town = times(folder)[os.path.join(folder, f"made/contests/town/{TOWN}/session_90.json")]
-    status, out, err = tried.run(folder, "--group", "1")
-    tried.see("refused files fail", status == 1 and "6 failed" in out, (out, err))
+    session = os.path.join(folder, f"made/contests/town/{TOWN}/session_90.json")
+    before_it = times(folder)[session]
+    status, out, err = tried.run(folder, "--group", "50")
+    tried.see("refused files fail", status == 1 and "4 failed" in out, (out, err))
+    of_mayor = rows(folder)["county", "Mayor"]
+    told = "signed off by 40 draws; then failed: county: contests 80: status 2: raire: counties/county/seen.csv: V1 at "
+    tried.see("a sign-off of an earlier look stays", (of_mayor["state"], of_mayor["signed_off"]) == ("signed off", "40") and of_mayor["why"].startswith(told), of_mayor)
+    tried.see("what only the later look signed off fails", rows(folder)["county", "Council ward 1"]["state"] == "failed", out)
+    tried.see("the digests have the files that are refused", b"counties/tied/ballots.raire" in read(folder, "made", "digests"), out)
     tried.see("with the program's line", "state: tied, contest 1: search --nodes=100000: status 2: raire: counties/tied/ballots.raire: B7 at " in err, err)
     tried.see("of each of them", "state: county: contests 80: status 2: raire: counties/county/seen.csv: V1 at " in err, err)
     tried.see("the others are done", rows(folder)["o'neil", "339"]["state"] == "full count", out)
@@ -229,97 +196,28 @@ def refused(tried, folder):
         with open(path, "wb") as file:
             file.write(data)
     status, out, err = tried.run(folder, "--group", "1")
-    tried.see("once they are mended the rest is made", status == 0 and times(folder)[os.path.join(folder, f"made/contests/town/{TOWN}/session_90.json")] == town, (out, err))
+    tried.see("once they are mended the rest is made", status == 0 and times(folder)[session] == before_it, (out, err))
     os.remove(os.path.join(folder, "counties", "town", "manifest.csv"))
+    put(folder, "counties", "county", "seen_45.csv", text="")
+    put(folder, "counties", "town", TOWN, "seen_9.csv", text="")
     status, out, err = tried.run(folder, "--group", "1")
+    for path in ("counties/county/seen_45.csv", f"counties/town/{TOWN}/seen_9.csv"):
+        tried.see("readings that no look asks for are told", f"state: {path} isn't read: no look of terms.csv asks for it\n" in err, err)
     tried.see("a file that isn't there fails", status == 1 and "status 12: raire: counties/town/manifest.csv: no such file" in err, err)
 
 
 # ---- a state that is made, cut off and on Slurm
 
-def copy_of(folder, to):
-    os.mkdir(to)
-    for name in ("terms.csv", "counties"):
-        os.symlink(os.path.join(folder, name), os.path.join(to, name))
-    return to
+def pages(tried, folder):
+    """A county with a contest whose file was found by sets, and is accepted by more nodes than a page has by itself."""
+    made_state.write_state(folder, 5, 1, first=10, audits=("session",))
+    status, out, err = tried.run(folder)
+    found = rows(folder)
+    tried.see("each contest has its page, by its own budget", status == 0 and all(row["page"] for row in found.values()), (out, err))
+    tried.see("one of them by more nodes", ("--sets=1048576", "--nodes=200000") in [(row["search"], row["check"]) for row in found.values()], found)
 
 
-def whole(folder):
-    """The outputs that are there under their names."""
-    return {path: time for path, time in times(folder).items() if not path.endswith(".part")}
-
-
-def cut_off(tried, folder, digests, group, count):
-    """Killed with all that it began, at three moments, with outputs cut off by hand; then begun again. Whole it has so many outputs."""
-    for most in (count // 20, count // 4, count // 2):
-        with subprocess.Popen(tried.words(folder, "--group", group, "--without-pages"), stdout=subprocess.DEVNULL, stderr=subprocess.DEVNULL, env=tried.given(), start_new_session=True) as begun:
-            while begun.poll() is None and len(whole(folder)) < most:
-                time.sleep(0.02)
-            with contextlib.suppress(ProcessLookupError):
-                os.killpg(begun.pid, signal.SIGKILL)
-    there = whole(folder)
-    tried.see("it was killed in the middle", count // 20 <= len(there) < count and not os.path.exists(os.path.join(folder, "made", "digests")), len(there))
-    cut = sorted(there)[::4]
-    for path in cut:
-        os.truncate(path, os.path.getsize(path) // 2)
-    status, out, err = tried.run(folder, "--group", group, "--without-pages")
-    tried.see("begun again it ends", status == 0, (out, err))
-    tried.see("with the same digests", read(folder, "made", "digests") == digests)
-    after = whole(folder)
-    tried.see("what was whole isn't made anew", all(after[path] == there[path] for path in set(there) - set(cut) if not path.endswith("search.txt")))
-    tried.see("no part of a file is left", after == times(folder))
-
-
-def on_slurm(tried, folder, digests, group, place):
-    missing = slurm.missing()
-    if missing or os.geteuid() != 0:
-        print(f"acceptance/state.py: NOT TRIED: Slurm: {', '.join(missing) + ' missing' if missing else 'this needs root'}")
-        return
-    with contextlib.ExitStack() as stack:
-        try:
-            cluster = stack.enter_context(slurm.Slurm(place))
-        except (OSError, TimeoutError, subprocess.SubprocessError) as fault:
-            print(f"acceptance/state.py: NOT TRIED: Slurm doesn't begin here: {fault}")
-            return
-        harmed(tried, folder, digests, group, cluster)
-
-
-def harmed(tried, folder, digests, group, cluster):
-    """A job is cancelled and another one is killed: they are begun again, and no other."""
-    words = tried.words(folder, "--profile", "slurm", "--group", group, "--without-pages")
-    with open(os.path.join(cluster.folder, "told"), "w+") as told, subprocess.Popen(words, stdout=told, stderr=told, env=tried.given(cluster.given.items())) as begun:
-        jobs, end = [], time.monotonic() + PATIENCE / 2
-        while begun.poll() is None and len(jobs) < 2 and time.monotonic() < end:
-            jobs = cluster.said("squeue", "--noheader", "--states=R", "--format=%A").split()
-            time.sleep(0.05)
-        count = len(cluster.said("squeue", "--noheader", "--format=%A").split())
-        if len(jobs) > 1:
-            cluster.said("scancel", jobs[0])
-            killed = kill_of(cluster, jobs[1])
-        status = begun.wait(PATIENCE)
-        told.seek(0)
-        text = told.read()
-    tried.see("two jobs were running, and were ended", len(jobs) > 1 and killed, (jobs, count, text))
-    tried.see("on Slurm it ends all the same", status == 0, text + read(folder, "made", "snakemake.log").decode(errors="replace"))
-    tried.see("with the same digests as on this machine", status == 0 and read(folder, "made", "digests") == digests)
-    ids = re.findall("with external jobid '([0-9]+)'", read(folder, "made", "snakemake.log").decode(errors="replace"))
-    batches = len({name.rpartition(".")[2] for name in os.listdir(os.path.join(folder, "made", "runs", "done"))})
-    tried.see("their jobs alone were begun again", batches < len(ids) <= batches + 2, (ids, batches))
-
-
-def kill_of(cluster, job):
-    """Kills all processes of a job on its node."""
-    killed = False
-    for name in filter(str.isdigit, os.listdir("/proc")):
-        with contextlib.suppress(OSError):
-            given = read("/proc", name, "environ")
-            if f"SLURM_JOB_ID={job}\0".encode() in given and f"SLURM_CONF={cluster.given['SLURM_CONF']}\0".encode() in given:
-                os.kill(int(name), signal.SIGKILL)
-                killed = True
-    return killed
-
-
-def made(tried, place, contests, counties):
+def made(tried, place, contests, counties, instants):
     folder = os.path.join(place, "made_state")
     made_state.write_state(folder, contests, counties)
     start = time.monotonic()
@@ -330,21 +228,24 @@ def made(tried, place, contests, counties):
         return
     print(f"state: {contests} contests of {counties} counties in {round(time.monotonic() - start)} seconds: {out.splitlines()[0]}")
     digests, group = read(folder, "made", "digests"), str(max(3, contests // JOBS))
-    cut_off(tried, copy_of(folder, os.path.join(place, "cut_off")), digests, group, len(times(folder)))
+    cut_off(tried, copy_of(folder, os.path.join(place, "cut_off")), digests, group, instants)
     os.mkdir(os.path.join(place, "slurm"))
     on_slurm(tried, copy_of(folder, os.path.join(place, "on_slurm")), digests, group, os.path.join(place, "slurm"))
 
 
 def main():
     program = os.path.abspath(sys.argv[1])
-    contests, counties = (int(word) for word in (sys.argv[2:] + ["24", "8"][len(sys.argv[2:]):])[:2])
+    numbers = [int(word) for word in sys.argv[2:]]
+    contests, counties, instants = numbers + [24, 8, 4][len(numbers):]
     if not shutil.which("snakemake"):
         print("acceptance/state.py: NOT TRIED: snakemake isn't here")
         return
     tried = Tried(program)
     with tempfile.TemporaryDirectory() as place:
         by_hand(tried, os.path.join(place, "by hand"))
-        made(tried, place, contests, counties)
+        by_status(tried, os.path.join(place, "answers"))
+        pages(tried, os.path.join(place, "pages"))
+        made(tried, place, contests, counties, instants)
     print(f"{tried.count - tried.failed} things of a state as they should be, {tried.failed} not")
     sys.exit(1 if tried.failed else 0)
 

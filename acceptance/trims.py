@@ -2,8 +2,9 @@
 """Compares trims of the built program with the plain trimmer.
 
 acceptance/trims.py PROGRAM [CONTESTS] makes so many contests of 2 to 7 candidates, 1,000 if no number is given. Each that is decided is searched, its file
-trimmed and trimmed again, with many nodes or sets and with few. What is printed has to be accepted by `check`, and refused with
-`no: order .. stands` where any one claim is left out of it.
+trimmed and trimmed again, with many nodes or sets and with few. So is the same file with up to a dozen more assertions that hold, some of which refute
+the same as others, and such a file without its order, as version 3, in which they may have a smaller margin than its own. What is printed has to be accepted
+by `check`, and refused with `no: order .. stands` where any one claim is left out of it.
 """
 import json
 import os
@@ -24,8 +25,48 @@ def ran(program, *words):
     return done.returncode, done.stdout, done.stderr
 
 
+def another(contest, claims, draws):
+    """Some assertion: any one, or a NEN of the file with another loser."""
+    winner, loser = draws.below(contest.n), draws.below(contest.n)
+    rest = frozenset(c for c in range(contest.n) if draws.below(2)) | {winner, loser}
+    nens = [claim for claim in claims if claim["kind"] == "NEN"]
+    if nens and draws.below(3) == 0:
+        claim = nens[draws.below(len(nens))]
+        winner, rest = contest.ids.index(claim["winner"]), frozenset(map(contest.ids.index, claim["rest"]))
+        loser = sorted(rest)[draws.below(len(rest))]
+    return ("NEB", winner, loser) if draws.below(3) == 0 else ("NEN", winner, loser, rest)
+
+
+def crowded(contest, found, draws):
+    """The file with more assertions that hold, anywhere among its own, and of no smaller margin."""
+    value = json.loads(found)
+    add_claims(contest, value, value["margin"], draws)
+    return json.dumps(value)
+
+
+def covering(contest, found, draws):
+    """The same without its order, and with more assertions of any margin."""
+    value = json.loads(found)
+    del value["order"]
+    value["version"] = 3
+    add_claims(contest, value, 1, draws)
+    value["margin"] = min(claim["margin"] for claim in value["assertions"])
+    return json.dumps(value)
+
+
+def add_claims(contest, value, least, draws):
+    """More assertions that hold, anywhere among those of the file, by at least this margin."""
+    claims = value["assertions"]
+    for _ in range(draws.below(13)):
+        kind, winner, loser, *rest = assertion = another(contest, claims, draws)
+        if winner != loser and contest.margin(assertion) >= least:
+            claim = {"kind": kind, "loser": contest.ids[loser], "margin": contest.margin(assertion), "winner": contest.ids[winner]}
+            more = {"rest": [contest.ids[c] for c in sorted(rest[0])]} if rest else {}
+            claims.insert(draws.below(len(claims) + 1), {**claim, **more})
+
+
 def faults(program, ballots, found, folder, draws):
-    """What differs from the definition, of the assertions that a search found."""
+    """What differs from the definition, of the assertions of a file."""
     path, again = os.path.join(folder, "found.json"), os.path.join(folder, "trimmed.json")
     with open(path, "w") as file:
         file.write(found)
@@ -67,9 +108,12 @@ def main():
             n = 7 if number % 50 == 49 else 2 + number % 5
             ids = [str(11 + c) for c in range(n)]
             ballots = os.path.join(folder, "ballots.raire")
-            compare.write(ballots, ids, compare.contest_of(draws, n, 20 + draws.below(100)))
+            rankings = compare.contest_of(draws, n, 20 + draws.below(100))
+            compare.write(ballots, ids, rankings)
             status, found, _ = ran(program, "search", ballots)
-            told = [] if status else list(faults(program, ballots, found, folder, draws))
+            contest = plain.Contest("9", ids, rankings)
+            files = [] if status else [found, crowded(contest, found, draws), covering(contest, found, draws)]
+            told = [fault for file in files for fault in faults(program, ballots, file, folder, draws)]
             for fault in told:
                 print(f"contest {number + 1}: {fault}")
             agree, failed = agree + (not told), failed + bool(told)

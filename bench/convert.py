@@ -1,13 +1,15 @@
 #!/usr/bin/python3
 """How much memory and time ./raire convert takes for large exports: bench/convert.py [MEGABYTES] [FORM..]
 
-Makes an export of so many megabytes (left out: 1000) in each form (left out: all of FORMS), converts it, and prints a line: the form, its bytes, cards,
-the peak of memory in MiB and the seconds of the processor.
+Makes an export of this size (default: 1000 megabytes, which is 1 GB) in each form (default: all of FORMS), one after the other, converts it, deletes it, and
+prints a line: the form, its bytes, its cards, the peak of resident memory in megabytes and the seconds of the processor. Status 1 if some form takes more
+than MOST_MEMORY. The exports are made in the folder that BENCH_FOLDER names in the environment, or in /tmp.
 """
 import itertools
 import json
 import os
 import random
+import re
 import subprocess
 import sys
 import tempfile
@@ -15,7 +17,9 @@ import zipfile
 
 TOP = os.path.dirname(os.path.dirname(os.path.abspath(__file__)))
 CANDIDATES = range(1, 10)  # the last one is the write-in
-POOL = 400  # so many different ballots
+POOL = 400  # different ballots
+MEGABYTE = 1_000_000
+MOST_MEMORY = 150  # megabytes
 
 
 def rankings():
@@ -80,7 +84,10 @@ def nist(folder, size):
             for rank, c in enumerate(ranking, 1)
         ]
         snapshot = {"@id": "_n", "@type": "CVR.CVRSnapshot", "Type": "interpreted", "CVRContest": [{"ContestId": "_c", "CVRContestSelection": chosen}]}
-        records.append(json.dumps({"@type": "CVR.CVR", "BatchId": "77777", "BatchSequenceId": 88888, "CurrentSnapshotId": "_n", "CVRSnapshot": [snapshot]}))
+        records.append(json.dumps({
+            "@type": "CVR.CVR", "BallotImage": [{"Location": "i" * 300}], "BatchId": "77777", "BatchSequenceId": 88888, "CurrentSnapshotId": "_n",
+            "CVRSnapshot": [snapshot],
+        }))
     tail = "]," + json.dumps({"Election": [election], "Version": "1.0.0", "@type": "CVR.CastVoteRecordReport"})[1:]
     path = os.path.join(folder, "report.json")
     filled(path, size, '{"CVR":[', ",", tail, numbered(records))
@@ -88,7 +95,7 @@ def nist(folder, size):
 
 
 def plain(folder, size):
-    rows = [",".join(["b77777_88888", *(f"Candidate {c}" for c in ranking), *[""] * (9 - len(ranking)), "x" * 900]) + "\n" for ranking in rankings()]
+    rows = [",".join(["b77777_88888", *(f"Candidate {c}" for c in ranking), *[""] * (9 - len(ranking)), "x" * 1000]) + "\n" for ranking in rankings()]
     path = os.path.join(folder, "sheet.csv")
     filled(path, size, ",".join(["id", *map(str, CANDIDATES), "Notes"]) + "\n", "", "", numbered(rows))
     return [path]
@@ -100,7 +107,7 @@ def dominion_csv(folder, size):
     title, blank = '"Mayor (Number of positions=1, Number of ranks=9)"', [""] * len(fixed)
     head = [["made", "5.10.50.85"], [*blank, *[title] * 81], [*blank, *(f"{'Write-in' if c == 9 else f'Candidate {c}'}({rank})" for c, rank in columns)], [*fixed, *[""] * 81]]
     marks = [",".join("1" if rank <= len(ranking) and ranking[rank - 1] == c else "0" for c, rank in columns) for ranking in rankings()]
-    rows = (f"{n + 1},1,{n // 50 + 1},{n % 50 + 1},1-{n // 50 + 1}-{n % 50 + 1},Mail,{'x' * 600},T,{marks[n % POOL]}\n" for n in itertools.count())
+    rows = (f"{n + 1},1,{n // 50 + 1},{n % 50 + 1},1-{n // 50 + 1}-{n % 50 + 1},Mail,{'x' * 900},T,{marks[n % POOL]}\n" for n in itertools.count())
     path = os.path.join(folder, "export.csv")
     filled(path, size, "".join(",".join(row) + "\n" for row in head), "", "", rows)
     return [path]
@@ -110,7 +117,7 @@ def clear_ballot(folder, size):
     fixed = "RowNumber,BoxID,BoxPosition,BallotID,PrecinctID,BallotStyleID,PrecinctStyleName,ScanComputerName,Status,Remade"
     head = fixed + "".join(f",Choice_{c}_1:Mayor:Vote For 1:{'Write-in' if c == 9 else f'Candidate {c}'}:NON" for c in CANDIDATES) + "\n"
     cells = [",".join(str(ranking.index(c) + 1 if c in ranking else 0) for c in CANDIDATES) for ranking in rankings()]
-    rows = (f"{n + 1},B{n // 50 + 1},{n % 50 + 1},{n},1,1,{'x' * 800},s,,0,{cells[n % POOL]}\n" for n in itertools.count())
+    rows = (f"{n + 1},B{n // 50 + 1},{n % 50 + 1},{n},1,1,{'x' * 1000},s,,0,{cells[n % POOL]}\n" for n in itertools.count())
     path = os.path.join(folder, "export.csv")
     filled(path, size, head, "", "", rows)
     return [path, "--contest", "Mayor"]
@@ -130,47 +137,146 @@ def nist_xml(folder, size):
             f"<IsAllocable>yes</IsAllocable><NumberVotes>1</NumberVotes><Rank>{rank}</Rank></SelectionPosition></CVRContestSelection>" for rank, c in enumerate(ranking, 1)
         )
         snapshot = f'<CVRSnapshot ObjectId="_n"><CVRContest><ContestId>_c</ContestId>{marks}</CVRContest><Type>interpreted</Type></CVRSnapshot>'
-        records.append(f"<CVR><BatchId>77777</BatchId><BatchSequenceId>88888</BatchSequenceId>{snapshot}<CurrentSnapshotId>_n</CurrentSnapshotId></CVR>\n")
+        image = f"<BallotImage><Location>{'i' * 300}</Location></BallotImage>"
+        card = "<BatchId>77777</BatchId><BatchSequenceId>88888</BatchSequenceId>"
+        records.append(f"<CVR>{image}{card}{snapshot}<CurrentSnapshotId>_n</CurrentSnapshotId></CVR>\n")
     path = os.path.join(folder, "report.xml")
     filled(path, size, '<CastVoteRecordReport xmlns="http://itl.nist.gov/ns/voting/1500-103/v1">\n', "", f"{election}<Version>1.0.0</Version></CastVoteRecordReport>\n", numbered(records))
     return [path]
 
 
-def hart(folder, size):
+def card_of_hart(ranking, contests):
+    """A card as a county has it, with many contests of five options; the first one is the ranked one."""
+    def contest(name, key, options):
+        return f"<Contest><Name>{name}</Name><Id>{key}</Id><Options>{options}</Options></Contest>"
+
+    ranked = "".join(
+        f"<Option><Name>Candidate {c}</Name><Id>c{c}</Id><Value>{''.join('01'[ranking[rank:rank + 1] == [c]] for rank in range(9))}</Value></Option>"
+        for c in CANDIDATES
+    )
+    listed = [contest("Mayor", "m", ranked)]
+    for number in range(1, contests):
+        options = "".join(f"<Option><Name>Candidate {c}</Name><Id>{number}-{c}</Id><Value>{int(c == 3)}</Value></Option>" for c in range(1, 6))
+        listed.append(contest(f"Judge of district {number}", f"j{number}", options))
+    return (
+        f'<?xml version="1.0"?><Cvr xmlns="http://tempuri.org/CVRDesign.xsd"><Contests>{"".join(listed)}</Contests>'
+        "<BatchSequence>88888</BatchSequence><BatchNumber>77777</BatchNumber></Cvr>"
+    )
+
+
+def cards_of_hart(size, contests):
+    """The name and the text of each card, until there are so many bytes."""
+    written = 0
+    for number, card in enumerate(numbered([card_of_hart(ranking, contests) for ranking in rankings()])):
+        yield f"{number // 1000}/{number}.xml", card
+        written += len(card)
+        if written >= size:
+            return
+
+
+def hart(folder, size, contests=20):
+    """Folders with a file for each card."""
+    for name, card in cards_of_hart(size, contests):
+        path = os.path.join(folder, "cvrs", name)
+        os.makedirs(os.path.dirname(path), exist_ok=True)
+        with open(path, "w") as file:
+            file.write(card)
+    return [os.path.join(folder, "cvrs"), "--contest", "Mayor"]
+
+
+def hart_zip(folder, size, contests=20):
     """A zip with a file for each card."""
-    path, written = os.path.join(folder, "cvrs.zip"), 0
-    cards = numbered([
-        '<?xml version="1.0"?><Cvr xmlns="http://tempuri.org/CVRDesign.xsd"><Contests><Contest><Name>Mayor</Name><Id>m</Id><Options>' + "".join(
-            f"<Option><Name>Candidate {c}</Name><Id>c{c}</Id><Value>{''.join('1' if ranking[rank:rank + 1] == [c] else '0' for rank in range(9))}</Value></Option>" for c in CANDIDATES
-        ) + "</Options></Contest></Contests><BatchSequence>88888</BatchSequence><BatchNumber>77777</BatchNumber></Cvr>" for ranking in rankings()
-    ])
-    with zipfile.ZipFile(path, "w", zipfile.ZIP_DEFLATED) as archive:
-        for number, card in enumerate(cards):
-            archive.writestr(f"{number}.xml", card)
-            written += len(card)
-            if written >= size:
-                break
+    path = os.path.join(folder, "cvrs.zip")
+    with zipfile.ZipFile(path, "w", zipfile.ZIP_DEFLATED, compresslevel=1) as archive:
+        for name, card in cards_of_hart(size, contests):
+            archive.writestr(name, card)
+    return [path, "--contest", "Mayor"]
+
+
+def rows_of(card, nobody):
+    """The rows of a sheet: the card, a column that isn't read, and a column for each rank."""
+    ranked = ([*(f"Candidate {c}" for c in ranking), *[nobody] * (9 - len(ranking))] for ranking in rankings())
+    return [",".join([card, "x" * 1000, *cells]) + "\n" for cells in ranked]
+
+
+def ess(folder, size):
+    rows = rows_of("b77777_88888", "undervote")
+    path = os.path.join(folder, "cvr.csv")
+    filled(path, size, ",".join(["Cast Vote Record", "Precinct", *(f"Mayor Choice {rank} of 9" for rank in CANDIDATES)]) + "\n", "", "", numbered(rows))
     return [path]
 
 
+def rctab(folder, size):
+    rows = rows_of("4,77777,88888", "undervote")
+    path = os.path.join(folder, "mayor.csv")
+    filled(path, size, ",".join(["Tabulator Id,Batch Id,Record Id,Precinct", *(f"Rank {rank}" for rank in CANDIDATES)]) + "\n", "", "", numbered(rows))
+    return [path]
+
+
+def unified(folder, size):
+    rows = rows_of("b77777_88888", "skipped")
+    path = os.path.join(folder, "mayor.csv")
+    filled(path, size, ",".join(["BallotID,precinct", *(f"rank{rank}" for rank in CANDIDATES)]) + "\n", "", "", numbered(rows))
+    return [path]
+
+
+def preflib(folder, size, kind, order):
+    """Orders with blanks between, so that a ballot has as many bytes as in other forms; short names, so that the ballot file isn't too long."""
+    chance, length = random.Random(2), 1100
+    texts = [order(chance.sample(CANDIDATES, len(CANDIDATES))) for _ in range(POOL)]
+    lines = [f"1: {text.replace(',', ',' + ' ' * ((length - len(text)) // text.count(',')))}\n" for text in texts]
+    count, written = 0, 0
+    while written < size:
+        written += len(lines[count % POOL])
+        count += 1
+    path = os.path.join(folder, f"mayor.{kind}")
+    names = "".join(f"# ALTERNATIVE NAME {c}: C{c}\n" for c in CANDIDATES)
+    with open(path, "w") as file:
+        file.write(f"# TITLE: Mayor\n# DATA TYPE: {kind}\n# NUMBER ALTERNATIVES: {len(CANDIDATES)}\n")
+        file.write(f"# NUMBER VOTERS: {count}\n# NUMBER UNIQUE ORDERS: {count}\n{names}")
+        file.writelines(lines[number % POOL] for number in range(count))
+    return [path]
+
+
+def soc(folder, size):
+    return preflib(folder, size, "soc", lambda order: ",".join(map(str, order)))
+
+
+def toc(folder, size):
+    return preflib(folder, size, "toc", lambda order: ",".join([*map(str, order[:5]), "{" + ",".join(map(str, order[5:])) + "}"]))
+
+
 FORMS = {
-    "dominion": dominion, "dominion-csv": dominion_csv, "hart": hart, "clear-ballot": clear_ballot, "nist": nist, "nist as XML": nist_xml, "plain": plain,
+    "dominion": dominion, "dominion-csv": dominion_csv, "hart": hart, "hart as a zip": hart_zip, "clear-ballot": clear_ballot, "nist": nist,
+    "nist as XML": nist_xml, "ess": ess, "plain": plain, "rctab": rctab, "rctab in the unified form": unified, "preflib as .soc": soc, "preflib as .toc": toc,
 }
+
+
+def measured(form, size, folder):
+    """The cards that were read, the peak of memory in bytes, the seconds of the processor and the status of a call."""
+    paths = FORMS[form](folder, size)
+    account, out = os.path.join(folder, "account.txt"), os.path.join(folder, "out.raire")
+    with open(out, "wb") as file:
+        words = [os.path.join(TOP, "tools", "convert"), form.partition(" ")[0], *paths, "--account", account]
+        child = subprocess.Popen(words, stdout=file, stderr=subprocess.DEVNULL)
+    _, status, used = os.wait4(child.pid, 0)
+    cards = 0
+    if status == 0:
+        with open(account) as file:
+            cards = sum(int(found[1]) for found in re.finditer("(?m)^read: .*: ([0-9]+) cards$", file.read()))
+    return cards, used.ru_maxrss * 1024, used.ru_utime + used.ru_stime, os.waitstatus_to_exitcode(status)
 
 
 def main():
     size, forms = int(sys.argv[1]) if len(sys.argv) > 1 else 1000, sys.argv[2:] or list(FORMS)
+    above = 0
     for form in forms:
-        with tempfile.TemporaryDirectory() as folder:
-            paths = FORMS[form](folder, size * 1_000_000)
-            ballots = os.path.join(folder, "out.raire")
-            with open(ballots, "wb") as out:
-                child = subprocess.Popen([os.path.join(TOP, "tools", "convert"), form.partition(" ")[0], *paths], stdout=out, stderr=subprocess.DEVNULL)
-            _, status, used = os.wait4(child.pid, 0)
-            with open(ballots, "rb") as file:
-                cards = sum(1 for _ in file) - 2
-            seconds = used.ru_utime + used.ru_stime
-            print(f"{form} {size} MB {cards} cards: {used.ru_maxrss / 1024:.0f} MiB, {seconds:.0f} s, status {os.waitstatus_to_exitcode(status)}", flush=True)
+        with tempfile.TemporaryDirectory(dir=os.environ.get("BENCH_FOLDER")) as folder:
+            cards, memory, seconds, status = measured(form, size * MEGABYTE, folder)
+        above += memory > MOST_MEMORY * MEGABYTE or status != 0
+        print(f"{form}: {size} MB, {cards} cards: {memory / MEGABYTE:.0f} MB, {seconds:.0f} s, status {status}", flush=True)
+    print(f"{len(forms) - above} forms within {MOST_MEMORY} MB, {above} not")
+    sys.exit(1 if above else 0)
 
 
 if __name__ == "__main__":

@@ -2,10 +2,11 @@
 """Times `raire poll`, and tells how many draws a poll takes beside a comparison.
 
     bench/poll.py            a poll of 1,000,000 cards, 30 assertions and 10,000 draws, beside one of the same files and one draw: what the draws
-                             take stands last, the least of five runs each
+                             take stands last, the least of five runs each; then the same with a look after each draw
     bench/poll.py draws      for margins of a contest of two candidates and 10,000 cards, each of them for one or the other: the draws of a clean
                              comparison by `raire plan`, and the draws after which half, and nine in ten, of 200 seeds are confirmed by a
-                             poll; the program confirms each at that draw, and not before. A dash stands where they aren't within 20,000 draws
+                             poll with a look after each draw and the gamma that fits, and by polls without; the program confirms each at that
+                             draw, and not before. A dash stands where they aren't within 100,000 draws, or 20,000 without a look after each
 """
 import math
 import os
@@ -20,7 +21,7 @@ import plain_poll  # noqa: E402
 from draws import Draws  # noqa: E402
 
 CARDS, BATCHES, CANDIDATES, CLAIMS, DRAWS, SEED = 1_000_000, 4_000, 10, 30, 10_000, "2024"
-PERCENTS, GAMMAS, LIMIT, SEEDS, MOST = (1, 2, 5, 10, 20, 25, 30, 40, 50, 60, 80), (100, 500), 50_000, 200, 20_000
+PERCENTS, GAMMAS, LIMIT, SEEDS, MOST, MOST_EACH = (1, 2, 5, 10, 20, 30, 40, 50, 60, 80), (500, 100), 50_000, 200, 20_000, 100_000
 
 
 # ---- what a poll takes
@@ -53,9 +54,11 @@ def write_large():
 def time_large():
     claims = write_large()
     words = [PROGRAM, "poll", "manifest.csv", "assertions.json", "seen.csv", f"--seed={SEED}"]
-    one, many = (min(run([*words, f"--draws={draws}"]) for _ in range(5)) for draws in (1, DRAWS))
-    print(f"{CARDS:,} cards, {claims} assertions: one draw {one[0]:.3f} s, {DRAWS:,} draws {many[0]:.3f} s, {many[1] / 1e6:.0f} MB, status {many[2]}")
-    print(f"the draws take {many[0] - one[0]:.3f} s")
+    for more in ([], ["--each", "--gamma=best", "--limit=1"]):
+        one, many = (min(run([*words, *more, f"--draws={draws}"]) for _ in range(5)) for draws in (1, DRAWS))
+        told = f"one draw {one[0]:.3f} s, {DRAWS:,} draws {many[0]:.3f} s, {many[1] / 1e6:.0f} MB, status {many[2]}"
+        print(f"{CARDS:,} cards, {claims} assertions{''.join(f' {word}' for word in more)}: {told}")
+        print(f"the draws take {many[0] - one[0]:.3f} s")
 
 
 # ---- how many draws
@@ -103,33 +106,52 @@ def first_draw(seed, cards, first, gamma, units):
     return None
 
 
-def is_first(seed, draws, gamma):
-    words = [PROGRAM, "poll", "manifest.csv", "assertions.json", "seen.csv", f"--seed={seed}", f"--gamma={gamma}", f"--limit={LIMIT}"]
+def each_first_draw(seed, cards, first, gamma):
+    """The same with a look after each draw."""
+    units = plain_poll.UNIT
+    for k in range(1, MOST_EACH + 1):
+        units = plain_poll.next_risk(units, 0 if plain_audit.drawn(seed, k, cards) > first else 2, gamma)
+        if units <= LIMIT * 10**12:
+            return k
+    return None
+
+
+def is_first(seed, draws, *more):
+    words = [PROGRAM, "poll", "manifest.csv", "assertions.json", "seen.csv", f"--seed={seed}", f"--limit={LIMIT}", *more]
     return [subprocess.run([*words, f"--draws={at}"], stdout=subprocess.DEVNULL).returncode for at in (draws - 1, draws) if at] == [10, 0][-min(draws, 2):]
 
 
 def polls(cards, first, gamma):
-    """The draws that half and nine in ten of the seeds take, as texts."""
     units = lowered(gamma)
-    found = [(first_draw(seed, cards, first, gamma, units), seed) for seed in range(SEEDS)]
+    return shares([(first_draw(seed, cards, first, gamma, units), seed) for seed in range(SEEDS)], f"--gamma={gamma}")
+
+
+def polls_each(cards, first):
+    gamma = plain_poll.best_gamma(cards, 2 * first - cards)
+    return shares([(each_first_draw(seed, cards, first, gamma), seed) for seed in range(SEEDS)], "--gamma=best", "--each")
+
+
+def shares(found, *more):
+    """The draws that half and nine in ten of the seeds take, as texts."""
     took = sorted((draws, seed) for draws, seed in found if draws)
     told = []
     for share in (0.5, 0.9):
         at = math.ceil(share * SEEDS) - 1
-        if at < len(took) and not is_first(took[at][1], took[at][0], gamma):
-            sys.exit(f"the program says otherwise: {took[at]}, gamma {gamma}")
+        if at < len(took) and not is_first(took[at][1], took[at][0], *more):
+            sys.exit(f"the program says otherwise: {took[at]}, {' '.join(more)}")
         told.append(f"{took[at][0]:,}" if at < len(took) else "-")
     return told
 
 
 def tell_draws():
     cards = 10_000
-    print(f"{'margin':>7} {'comparison':>11}" + "".join(f" {f'poll {gamma}: half':>15} {'9 in 10':>8}" for gamma in GAMMAS))
+    heads = ["each, best", *(f"poll {gamma}" for gamma in GAMMAS)]
+    print(f"{'margin':>7} {'comparison':>11}" + "".join(f" {f'{head}: half':>16} {'9 in 10':>8}" for head in heads))
     for percent in PERCENTS:
         first = write_contest(cards, cards * percent // 100)
         plan = subprocess.run([PROGRAM, "plan", "manifest.csv", "assertions.json"], stdout=subprocess.PIPE, text=True).stdout.split()
-        texts = [text for gamma in GAMMAS for text in polls(cards, first, gamma)]
-        print(f"{percent:>6}% {plan[-2]:>11}" + "".join(f" {half:>15} {most:>8}" for half, most in zip(texts[::2], texts[1::2])), flush=True)
+        texts = [*polls_each(cards, first), *(text for gamma in GAMMAS for text in polls(cards, first, gamma))]
+        print(f"{percent:>6}% {plan[-2]:>11}" + "".join(f" {half:>16} {most:>8}" for half, most in zip(texts[::2], texts[1::2])), flush=True)
 
 
 def main():

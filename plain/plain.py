@@ -1,12 +1,12 @@
-#!/usr/bin/env python3
+#!/usr/bin/python3
 """The rules of docs/rules.md once more, written plainly and apart from the suite, to compare the built program with.
 
 Rankings are tuples of candidate numbers, orders and suffixes are tuples with the first eliminated first. A contest is
 searched by walking all suffixes in full (`certificate`) or, for larger ones, from the end under a bound
 (`certificate_by_bound`); both give the text that `raire search` prints. `tabulation` gives that of `raire tabulate`.
 `judge` reads an assertion file and walks all orders, of more than `MOST_LISTED_WHOLE` candidates those that nothing refutes; it gives
-the status and the text of `raire check`, or the rule that the file breaks and its place. Its budget is one of nodes, or of `Sets`. A search with a `Plan` prints version 2 of
-the file, with the clean draws of each margin.
+the status and the text of `raire check`, or the rule that the file breaks and its place. Its budget is one of nodes, or of `Sets`. A search with a
+`Plan` prints version 2 of the file, with the clean draws of each margin.
 
     plain/plain.py search BALLOTS      plain/plain.py tabulate BALLOTS
     plain/plain.py check BALLOTS ASSERTIONS
@@ -351,31 +351,43 @@ def has(value, kinds):
 
 
 HEADING = {
-    "assertions": is_list, "candidates": are_texts, "contest": is_text, "margin": is_number, "order": are_texts,
+    "assertions": is_list, "candidates": are_texts, "contest": is_text, "margin": is_number,
     "records": is_number, "version": is_number, "winner": is_text,
 }
 ENTRY = {"kind": lambda kind: kind in ("NEB", "NEN"), "winner": is_text, "loser": is_text, "margin": is_number}
 
-# What belongs to version 2 alone; in version 1 these are further members, which say nothing.
-HEADING_2 = {name: is_number for name in Plan._fields}
-ENTRY_2 = {"draws": lambda draws: draws is None or is_number(draws)}
+# What belongs to a plan. In version 1 these are further members, which say nothing; version 2 has them all, version 3 all or none.
+PLAN_HEADING = {name: is_number for name in Plan._fields}
+PLAN_ENTRY = {"draws": lambda draws: draws is None or is_number(draws)}
+
+# A file of this version has no order, and all others have one.
+COVER_VERSION = 3
+
+
+def is_planned(value):
+    """The file has a plan, or says so by one of its members."""
+    return value["version"] == 2 or (value["version"] == COVER_VERSION and not value.keys().isdisjoint(Plan._fields))
+
+
+def has_order_by_version(value):
+    return "order" not in value if value["version"] == COVER_VERSION else has(value, {"order": are_texts})
 
 
 def judge_heading(value):
-    if not has(value, HEADING) or (value["version"] == 2 and not has(value, HEADING_2)):
+    if not has(value, HEADING) or not has_order_by_version(value) or (is_planned(value) and not has(value, PLAN_HEADING)):
         raise Refused("F2", 0)
-    if value["version"] not in (1, 2):
+    if value["version"] not in (1, 2, COVER_VERSION):
         raise Refused("F3", 0)
     ids = value["candidates"]
     if not (is_id(value["contest"]) and all(map(is_id, ids)) and FEWEST_CANDIDATES <= len(ids) <= MOST_CANDIDATES and len(set(ids)) == len(ids)):
         raise Refused("F4", 0)
-    if not {value["winner"], *value["order"]} <= set(ids):
+    if not {value["winner"], *value.get("order", [])} <= set(ids):
         raise Refused("F4", 0)
-    if sorted(value["order"]) != sorted(ids):
+    if sorted(value.get("order", ids)) != sorted(ids):
         raise Refused("F5", 0)
     if not (1 <= value["records"] <= MOST_RECORDS and 1 <= value["margin"] <= value["records"]):
         raise Refused("F6", 0)
-    if value["version"] == 2 and not are_terms(value):
+    if is_planned(value) and not are_terms(value):
         raise Refused("F6", 0)
 
 
@@ -386,8 +398,10 @@ def are_terms(value):
 
 def claim_of(value, file, at):
     """The assertion and the margin that is claimed for it."""
-    ids, is_2 = file["candidates"], file["version"] == 2
-    if not has(value, {**ENTRY, **(ENTRY_2 if is_2 else {})}) or (value["kind"] == "NEN" and not has(value, {"rest": are_texts})):
+    ids, planned = file["candidates"], is_planned(file)
+    if not has(value, {**ENTRY, **(PLAN_ENTRY if planned else {})}) or (value["kind"] == "NEN" and not has(value, {"rest": are_texts})):
+        raise Refused("F2", at)
+    if file["version"] == COVER_VERSION and not planned and "draws" in value:
         raise Refused("F2", at)
     winner, loser = value["winner"], value["loser"]
     rest = value["rest"] if value["kind"] == "NEN" else [winner, loser]
@@ -395,7 +409,7 @@ def claim_of(value, file, at):
         raise Refused("F4", at)
     if len(set(rest)) < len(rest) or not {winner, loser} <= set(rest):
         raise Refused("F5", at)
-    if not 1 <= value["margin"] <= file["records"] or (is_2 and value["draws"] is not None and not 1 <= value["draws"] <= MOST_DRAWS):
+    if not 1 <= value["margin"] <= file["records"] or (planned and value["draws"] is not None and not 1 <= value["draws"] <= MOST_DRAWS):
         raise Refused("F6", at)
     assertion = (value["kind"], ids.index(winner), ids.index(loser))
     if value["kind"] == "NEN":
@@ -404,16 +418,17 @@ def claim_of(value, file, at):
 
 
 def read_assertions(data):
-    """The members of an assertion file, with a list of assertions and claimed margins, and in version 2 the `plan` and the claimed draws."""
+    """The members of an assertion file, with a list of assertions and claimed margins, and the `plan` and the claimed draws if it has them."""
     try:
         value = json_value(data)
     except (ValueError, RecursionError):
         raise Refused("F1", 0) from None
     judge_heading(value)
     claims = [claim_of(entry, value, at) for at, entry in enumerate(value["assertions"], 1)]
-    is_2 = value["version"] == 2
-    plan, draws = (Plan(*map(value.get, Plan._fields)), [entry["draws"] for entry in value["assertions"]]) if is_2 else (None, None)
-    return {**value, "assertions": claims, "plan": plan, "draws": draws}
+    planned = is_planned(value)
+    plan, draws = (Plan(*map(value.get, Plan._fields)), [entry["draws"] for entry in value["assertions"]]) if planned else (None, None)
+    order = None if value["version"] == COVER_VERSION else value["order"]
+    return {**value, "assertions": claims, "order": order, "plan": plan, "draws": draws}
 
 
 # ---- whether an assertion file holds
@@ -549,17 +564,24 @@ def difference(contest, file, budget):
     smallest = min(margin for _, margin in claims)
     if smallest != file["margin"]:
         return 6, f"no: smallest margin is {smallest}\n"
+    return not_best(contest, winner, file) or other_draws(file)
+
+
+def not_best(contest, winner, file):
+    """Why the file's order doesn't show that its margin is the best, or None. Without an order nothing is said of that."""
+    if file["order"] is None:
+        return None
     order = tuple(map(contest.ids.index, file["order"]))
     if order[-1] == winner:
         return 6, "no: order elects the winner\n"
     low, refuter = Lows(contest).low(order)
     if low > file["margin"]:
         return 6, f"no: order is refuted by {shown(contest, refuter)} margin {low}\n"
-    return other_draws(file)
+    return None
 
 
 def other_draws(file):
-    """The first assertion of version 2 whose draws aren't the clean draws of its margin, or None."""
+    """The first assertion of a plan whose draws aren't the clean draws of its margin, or None."""
     for number, ((_, margin), claimed) in enumerate(zip(file["assertions"], file["draws"] or []), 1):
         needed = file["plan"].draws(margin)
         if needed != claimed:
@@ -570,8 +592,10 @@ def other_draws(file):
 def judge(contest, data, budget=DEFAULT_NODES):
     """The status and the text of a check of the assertion file with these bytes. It may be Refused."""
     file = read_assertions(data)
-    accepted = 0, f"yes\nassertions {len(file['assertions'])}\nmargin {file['margin']}\n"
-    return difference(contest, file, budget) or accepted
+    lines = f"yes\nassertions {len(file['assertions'])}\nmargin {file['margin']}\n"
+    if file["order"] is None:
+        lines += "not said to be best\n"
+    return difference(contest, file, budget) or (0, lines)
 
 
 # ---- the command

@@ -1,4 +1,4 @@
-#!/usr/bin/env python3
+#!/usr/bin/python3
 """The whole suite once more, written plainly and apart from it: every command from its words to its texts.
 
 It follows docs/formats.md and docs/rules.md with hashlib and whole numbers alone, and takes from plain.py how contests
@@ -23,7 +23,7 @@ import plain_trim
 from plain_draws import clean_draws, UNIT  # noqa: F401
 from plain_risk import discrepancy, drawn, MISSING, risk, risk_text, value
 from limits import (
-    DEFAULT_NODES, FEWEST_CANDIDATES, GREATEST_GAMMA, GREATEST_LIMIT, MOST_BATCH_BYTES, MOST_BATCH_CARDS, MOST_CANDIDATES, MOST_CARDS,
+    DEFAULT_NODES, FEWEST_CANDIDATES, GREATEST_EACH_GAMMA, GREATEST_GAMMA, GREATEST_LIMIT, MOST_BATCH_BYTES, MOST_BATCH_CARDS, MOST_CANDIDATES, MOST_CARDS,
     MOST_CONTESTS, MOST_DRAWS, MOST_FILE_BYTES, MOST_FLOOR, MOST_LISTED, MOST_NODES, MOST_NUMBER, MOST_RECORDS, MOST_SEED_BYTES,
     MOST_SETS, MOST_WORKERS,
 )
@@ -455,19 +455,41 @@ def plan(options, manifest_path, path):
     return 0, "".join(lines) + ("all: full count\n" if most is None else f"all: {most} draws\n")
 
 
-def poll(options, manifest_path, path, seen_path):
+def poll_files(options, manifest_path, path, seen_path):
+    """The manifest, the assertion file, its contest and what is seen, or the end of the call: the assertions have to prove their winner."""
     manifest = judged(manifest_path, manifest_of, read(manifest_path))
     file = judged(path, plain.read_assertions, read(path))
     contest = plain.Contest(file["contest"], file["candidates"], [])
     told = plain.unproved(contest, contest.ids.index(file["winner"]), file["assertions"], options.get("nodes", DEFAULT_NODES))
     if told:
-        return told
-    seen = judged(seen_path, seen_of, read(seen_path), manifest, contest.ids)
+        raise End(*told)
+    return manifest, file, contest, judged(seen_path, seen_of, read(seen_path), manifest, contest.ids)
+
+
+def poll(options, manifest_path, path, seen_path):
+    manifest, file, contest, seen = poll_files(options, manifest_path, path, seen_path)
     see_all(seen_path, options["seed"], manifest.cards, seen, options["draws"])
     cards = [seen[drawn(options["seed"], k, manifest.cards)] for k in range(1, options["draws"] + 1)]
     values = [[0 if card == MISSING else value(assertion, card) for card in cards] for assertion, _ in file["assertions"]]
     names = [plain.shown(contest, assertion) for assertion, _ in file["assertions"]]
     return plain_poll.printed(names, values, manifest.cards, options["draws"], options.get("limit", 50_000), options.get("gamma", 100))
+
+
+def poll_each(options, manifest_path, path, seen_path):
+    """The same with a look after each draw. Cards without a record are told of only up to the draw that confirms the last assertion."""
+    manifest, file, contest, seen = poll_files(options, manifest_path, path, seen_path)
+    limit, gamma, seed = options.get("limit", 50_000), options.get("gamma", 100), options["seed"]
+    gammas = [plain_poll.best_gamma(manifest.cards, margin) if gamma == "best" else gamma for _, margin in file["assertions"]]
+    drawn_cards = [drawn(seed, k, manifest.cards) for k in range(1, options["draws"] + 1)]
+    cards = [seen.get(card, MISSING) for card in drawn_cards]
+    values = [[0 if card == MISSING else value(assertion, card) for card in cards] for assertion, _ in file["assertions"]]
+    see_all(seen_path, seed, manifest.cards, seen, plain_poll.asked(values, limit, gammas))
+    names = [plain.shown(contest, assertion) for assertion, _ in file["assertions"]]
+    head = [
+        f"contest {file['contest']}", f"winner {file['winner']}", f"cards {manifest.cards}", f"draws {options['draws']}", f"limit {limit}",
+        f"gamma {gamma}", f"seed {seed}",
+    ]
+    return plain_poll.printed_each(head, names, values, limit, gammas)
 
 
 def accepted(contest, path, data, budget):
@@ -671,8 +693,13 @@ KINDS = {
     "contest": lambda text: text if plain.is_id(text) else None, "seed": lambda text: text if is_seed(text) else None,
     "workers": as_number(1, MOST_WORKERS), "nodes": as_number(1, MOST_NODES), "sets": as_number(1, MOST_SETS), "floor": as_number(1, MOST_FLOOR),
     "limit": as_number(1, GREATEST_LIMIT), "gamma": as_number(1, GREATEST_GAMMA), "draws": as_number(1, MOST_DRAWS),
-    "cards": as_number(1, MOST_CARDS), "number": as_number(0, MOST_NUMBER), "candidates": as_number(FEWEST_CANDIDATES, MOST_CANDIDATES), "ballots": as_number(1, MOST_RECORDS),
+    "cards": as_number(1, MOST_CARDS), "number": as_number(0, MOST_NUMBER), "candidates": as_number(FEWEST_CANDIDATES, MOST_CANDIDATES),
+    "ballots": as_number(1, MOST_RECORDS),
 }
+
+# with the flag, which has no value, a gamma may be larger, or the one that fits
+FLAG = "each"
+EACH_KINDS = {**KINDS, "gamma": lambda text: text if text == "best" else number_in(text, 1, GREATEST_EACH_GAMMA)}
 
 # the call, the number of its files, the options that must be given, those that may be
 COMMANDS = {
@@ -692,7 +719,10 @@ COMMANDS = {
 }
 
 # a word's second line: of another number of files, or with an option that others want
-SECOND = {"plurality": (audit_plurality, 4, "draws", ""), "search": (search, 1, "cards", "contest workers nodes sets floor limit gamma")}
+SECOND = {
+    "plurality": (audit_plurality, 4, "draws", ""), "search": (search, 1, "cards", "contest workers nodes sets floor limit gamma"),
+    "poll": (poll_each, 3, "seed draws each", "limit gamma nodes"),
+}
 
 
 def line_of(words):
@@ -705,6 +735,7 @@ def line_in(form, words):
     """The same of the words after a command's word, by one of its forms."""
     call, count, must, may = form
     files, options, rest = [], {}, list(words)
+    kinds = EACH_KINDS if FLAG in must.split() else KINDS
     while rest:
         word = rest.pop(0)
         if word == "--":
@@ -715,9 +746,14 @@ def line_in(form, words):
             name, has_value, text = word[2:].partition("=")
             if not word.startswith("--") or name not in (must + " " + may).split() or name in options:
                 return None
+            if name == FLAG:
+                if has_value:
+                    return None
+                options[name] = True
+                continue
             if not has_value:
                 text = rest.pop(0) if rest and not rest[0].startswith("-") else ""
-            options[name] = KINDS[name](text) if text else None
+            options[name] = kinds[name](text) if text else None
             if options[name] is None:
                 return None
     is_line = len(files) == count and all(files) and set(must.split()) <= set(options) and not {"nodes", "sets"} <= set(options)

@@ -2,10 +2,16 @@
 
 A draw with a seen value s multiplies the risk by (500 + gamma) / (500 s + gamma). Those with a value of 2 are taken first, those
 with 0 last; each step is rounded up to a unit of 10^-18, and the risk is never above one.
+
+With a look after each draw they are taken as they come. A risk that has come above a million stays as it is, and an assertion is confirmed by the
+first draw after which its risk is within the limit.
 """
 from fractions import Fraction
 
+from limits import GREATEST_EACH_GAMMA
+
 UNIT = 10**18
+CEILING = 10**6 * UNIT
 
 
 def counts_of(values):
@@ -54,5 +60,46 @@ def printed(names, values, cards, draws, limit, gamma):
         all_confirmed = all_confirmed and confirmed
         told = f"risk {units // UNIT}.{units % UNIT:018} {'confirmed' if confirmed else 'unconfirmed'}"
         lines.append(f"{name} counts {' '.join(map(str, counts))} {told}")
+    lines.append(f"confirmed {'yes' if all_confirmed else 'no'}")
+    return (0 if all_confirmed else 10), "".join(f"{line}\n" for line in lines)
+
+
+# ---- with a look after each draw
+
+def best_gamma(cards, margin):
+    """The gamma that fits a margin: 500 (cards / margin - 1), rounded to the nearest whole number, at least 1 and at most the greatest."""
+    return min(max((1000 * max(cards - margin, 0) + margin) // (2 * margin), 1), GREATEST_EACH_GAMMA)
+
+
+def next_risk(units, s, gamma):
+    """The risk after one more draw with this value."""
+    return units if units > CEILING else -(-units * (500 + gamma) // (500 * s + gamma))
+
+
+def end_of(values, limit, gamma):
+    """The counts and the risk of an assertion at the draw that confirms it, and this draw; or after all draws, and None."""
+    counts, units = [0, 0, 0], UNIT
+    for k, s in enumerate(values, 1):
+        counts[s] += 1
+        units = next_risk(units, s, gamma)
+        if units <= limit * 10**12:
+            return counts, units, k
+    return counts, units, None
+
+
+def asked(values, limit, gammas):
+    """How many draws are asked of: up to the one that confirms the last assertion, or all where one isn't confirmed."""
+    ends = [end_of(each, limit, gamma)[2] or len(each) for each, gamma in zip(values, gammas)]
+    return max(ends, default=0)
+
+
+def printed_each(head, names, values, limit, gammas):
+    """Status and text of `raire poll --each`: its first lines, and of each assertion what it comes to on each drawn card, and its gamma."""
+    lines, all_confirmed = list(head), True
+    for name, each, gamma in zip(names, values, gammas):
+        counts, units, confirmed = end_of(each, limit, gamma)
+        all_confirmed = all_confirmed and confirmed is not None
+        told = f"risk {units // UNIT}.{units % UNIT:018} {f'confirmed {confirmed}' if confirmed else 'unconfirmed'}"
+        lines.append(f"{name} gamma {gamma} counts {' '.join(map(str, counts))} {told}")
     lines.append(f"confirmed {'yes' if all_confirmed else 'no'}")
     return (0 if all_confirmed else 10), "".join(f"{line}\n" for line in lines)

@@ -8,7 +8,7 @@ import json
 
 import plain
 
-HEADING = ("candidates", "contest", "margin", "order", "records", "version", "winner")
+HEADING = ("candidates", "contest", "margin", "records", "version", "winner")
 ENTRY = ("kind", "loser", "margin", "winner")
 
 
@@ -75,9 +75,11 @@ def printed(data, budget):
     except Spent as spent:
         return plain.spent_sets(budget) if isinstance(budget, plain.Sets) else (4, f"spent\ncandidate {ids[spent.last]}\n")
     value = json.loads(data)
-    is_2 = value["version"] == 2
-    kept = {name: value[name] for name in HEADING + plain.Plan._fields * is_2}
-    claims = [shown(value["assertions"][at], ids, ENTRY + ("draws",) * is_2) for at in left]
+    is_planned, has_order = file["plan"] is not None, file["order"] is not None
+    kept = {name: value[name] for name in HEADING + ("order",) * has_order + plain.Plan._fields * is_planned}
+    claims = [shown(value["assertions"][at], ids, ENTRY + ("draws",) * is_planned) for at in left]
+    if not has_order:
+        kept["margin"] = min(claim["margin"] for claim in claims)
     return 0, json.dumps({**kept, "assertions": claims}, sort_keys=True, separators=(",", ":")) + "\n"
 
 

@@ -162,7 +162,8 @@ def refusals_of(build, folder, names, at_once, start):
     said, refused = [], []
     given = {**os.environ, **({"RT_JOBS": str(at_once)} if at_once else {})}
     words = ["rt", "ci", *names]
-    with subprocess.Popen(words, cwd=folder, env=given, stdin=subprocess.DEVNULL, stdout=subprocess.PIPE, stderr=subprocess.STDOUT, text=True, errors="replace") as ran:
+    streams = {"stdin": subprocess.DEVNULL, "stdout": subprocess.PIPE, "stderr": subprocess.STDOUT}
+    with subprocess.Popen(words, cwd=folder, env=given, **streams, text=True, errors="replace") as ran:
         try:
             for line in ran.stdout:
                 line = line.replace(folder, TOP)  # the copy is gone when this is read
@@ -189,7 +190,7 @@ def see_kit():
     with open(os.path.join(TOP, "tools", "build", "kits.txt")) as file:
         tried = [line.strip() for line in file if not line.startswith("#")]
     if not any(kit == it or kit.startswith(f"{it} ") for it in tried):
-        say(f"this kit ({kit}) isn't one of those that were tried: {', '.join(it.split()[0] for it in tried)}; the build goes on")
+        say(f"this kit ({kit}) isn't one of those that were tried: {', '.join(it.split()[0] for it in tried)}; the build continues")
 
 
 def stopped(*_):

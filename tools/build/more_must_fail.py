@@ -72,7 +72,8 @@ def try_all(named, crates):
         copied(named, wanted, folder)
         for crate in crates:
             shutil.copytree(os.path.join(TOP, "crates", crate, MORE), os.path.join(folder, "crates", crate, "must-fail"))
-        with subprocess.Popen(["rt", "ci", *crates], cwd=folder, stdin=subprocess.DEVNULL, stdout=subprocess.PIPE, stderr=subprocess.STDOUT, text=True, errors="replace") as ran:
+        streams = {"stdin": subprocess.DEVNULL, "stdout": subprocess.PIPE, "stderr": subprocess.STDOUT}
+        with subprocess.Popen(["rt", "ci", *crates], cwd=folder, **streams, text=True, errors="replace") as ran:
             bad = 0
             for line in ran.stdout:
                 bad += "BAD EDIT" in line

@@ -3,6 +3,7 @@ import os
 import shutil
 import tarfile
 import tempfile
+import zlib
 
 import bundle
 import record
@@ -11,6 +12,9 @@ from running import Call, Refused, Runner
 
 SAME, DIFFERENT = 0, 6
 MOST_BUNDLE_FILES = 10_000
+PIECE = 1 << 16
+GZIP = zlib.MAX_WBITS | 16  # a stream of gzip, whose sum and length are looked at
+END_OF_TAR = 2 * tarfile.BLOCKSIZE
 
 
 def told(path, out):
@@ -31,16 +35,47 @@ def unpacked(path, place):
     """The files of a bundle, in a folder of its own. Nothing but plain files of plain names is taken out of it."""
     os.mkdir(place)
     try:
-        with tarfile.open(path) as tar:
-            for number, entry in enumerate(tar):
-                name = entry.name.removeprefix(f"{bundle.FOLDER}/")
-                if not entry.isfile() or number >= MOST_BUNDLE_FILES or not (record.FILE.fullmatch(name) or name in (record.NAME, bundle.PAGE)):
-                    raise Unusable(f"{path}: is no bundle of a desk: it has {entry.name!r}")
-                with open(os.path.join(place, name), "xb") as file:
-                    shutil.copyfileobj(tar.extractfile(entry), file)
-    except (tarfile.TarError, EOFError, OSError) as fault:
-        raise Unusable(f"{path}: is no bundle of a desk, or was cut off: {fault}") from None
+        with tempfile.TemporaryFile() as unzipped:
+            unzip(path, unzipped)
+            take_out(path, unzipped, place)
+    except (tarfile.TarError, zlib.error, EOFError, ValueError, OverflowError) as fault:
+        raise Unusable(f"{path}: is no bundle of a desk, or is damaged: {fault}; get it from its source again") from None
+    except OSError as fault:
+        raise Unusable(f"{path}: can't be read as a bundle of a desk: {fault.strerror or fault}") from None
     return place
+
+
+def unzip(path, out):
+    """Unpacks a file to its very end, so that no byte of it goes without a look."""
+    with open(path, "rb") as file:
+        if file.read(len(bundle.ZIPPED)) != bundle.ZIPPED:
+            raise ValueError("it doesn't begin as a desk's bundle does")
+        file.seek(0)
+        stream = zlib.decompressobj(GZIP)
+        while piece := file.read(PIECE):
+            out.write(stream.decompress(piece))
+            if stream.unused_data or (stream.eof and file.read(1)):
+                raise ValueError("something follows after its end")
+    if not stream.eof:
+        raise EOFError("it was cut off")
+    out.seek(0)
+
+
+def take_out(path, archive, place):
+    """Takes the files out of an archive. After the last of them there is nothing but its end."""
+    with tarfile.open(fileobj=archive, mode="r:") as tar:
+        for number, entry in enumerate(tar):
+            name = entry.name.removeprefix(f"{bundle.FOLDER}/")
+            is_plain = entry.type == tarfile.REGTYPE and (record.FILE.fullmatch(name) or name in (record.NAME, bundle.PAGE))
+            if not is_plain or number >= MOST_BUNDLE_FILES:
+                raise Unusable(f"{path}: is no bundle of a desk: it has {entry.name!r}")
+            with open(os.path.join(place, name), "xb") as file:
+                shutil.copyfileobj(tar.extractfile(entry), file)
+        archive.seek(tar.offset)
+    most = END_OF_TAR + tarfile.RECORDSIZE
+    end = archive.read(most)
+    if not END_OF_TAR <= len(end) < most or end.strip(b"\0"):
+        raise ValueError("its archive has no end, or something after it")
 
 
 class Again:
@@ -56,6 +91,8 @@ class Again:
             with open(os.path.join(self.source, record.NAME), encoding="utf-8", newline="") as file:
                 text = file.read()
             deeds = record.record_of(text)
+        except FileNotFoundError:
+            raise Unusable(f"{self.source}: {self.why_none()}") from None
         except OSError as fault:
             raise Unusable(f"{self.source}: {record.NAME}: {fault.strerror}") from None
         except (record.Broken, UnicodeDecodeError) as broken:
@@ -67,6 +104,12 @@ class Again:
         for name, digest in record.files_of(deeds).items():
             yield name, self.said(name, digest)
         yield from self.others(record.files_of(deeds))
+
+    def why_none(self):
+        """Why there is no record to read."""
+        if not os.path.isdir(self.source):
+            return "no such file"
+        return f"isn't the folder of a desk: it has no {record.NAME}. What to do: the commands in docs/observers.md check its files"
 
     def page(self):
         """How to run it again, as a bundle has it."""
@@ -108,7 +151,7 @@ class Again:
         known = {*files, record.NAME, bundle.PAGE, SCRATCH}
         for name in sorted(os.listdir(self.source)):
             if name not in known and not name.endswith(DRAFT_END):
-                yield name, "is no file of commands.txt"
+                yield name, "isn't a file that commands.txt names"
 
 
 def also_of(line):

@@ -12,10 +12,11 @@ import record
 from limits import MOST_CONTESTS
 
 COMPARISON, PLURALITY, POLL, CONTESTS = KINDS = ("comparison", "plurality", "poll", "contests")
-BALLOTS, MANIFEST, COUNTED, NAMES = "ballots.raire", "manifest.csv", "counted.raire", "names.csv"
+BALLOTS, MANIFEST, BOXES, SEEN, COUNTED, NAMES = "ballots.raire", "manifest.csv", "boxes.txt", "seen.csv", "counted.raire", "names.csv"
 READERS = ("A", "B")
 HEAD_BYTES = 8 << 20  # of a ballot file, in which the records of its contests stand
 CONFIRMED, UNCONFIRMED = 0, 10
+EACH, BEST = "each", "best"  # of a poll: a look after each draw, and the gamma that fits each margin
 
 
 class Contest(NamedTuple):
@@ -50,7 +51,13 @@ class Audit:
 
     @property
     def gamma(self):
-        return int(self.choices["gamma"])
+        """In thousandths; or a word, of a poll that takes the one that fits each margin."""
+        return BEST if self.choices["gamma"] == BEST else int(self.choices["gamma"])
+
+    @property
+    def is_each(self):
+        """Whether a poll looks after each draw, and not only at the end of a round."""
+        return self.choices.get("looks") == EACH
 
     @property
     def seed(self):
@@ -68,7 +75,7 @@ class Audit:
 
     @functools.cached_property
     def contests(self):
-        """The contests of the ballot file, or none where it can't be read as one."""
+        """The contests of the ballot file, or none if it can't be read as one."""
         try:
             with open(self.folder.place(BALLOTS), "rb") as file:
                 return contests_of(file.read(HEAD_BYTES))
@@ -104,6 +111,15 @@ class Audit:
         """The contests of a county that have no assertions: those that are tied, or whose budget was spent."""
         return [each for each in self.contests if f"undecided_{each.number}.txt" in self.files]
 
+    # ---- cards
+
+    @functools.cached_property
+    def cards(self):
+        """The number of cards of the manifest, which the program has accepted."""
+        rows = csv.reader(io.StringIO(self.text(MANIFEST), newline=""))
+        next(rows)
+        return sum(int(row[1]) for row in rows if any(row))
+
     # ---- rounds
 
     def rounds(self):
@@ -137,10 +153,6 @@ class Audit:
     def has_report(self):
         """Whether a round ends with a report of its session."""
         return self.kind in (COMPARISON, PLURALITY)
-
-    def seen(self, number):
-        """The file of all cards that were seen up to a round."""
-        return "seen1.csv" if number == 1 else "seen.csv"
 
     # ---- files
 

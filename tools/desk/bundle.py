@@ -8,6 +8,7 @@ import tempfile
 import record
 
 FOLDER, NAME, PAGE = "audit", "audit.tar.gz", "README.txt"
+ZIPPED = b"\x1f\x8b\x08" + bytes(6) + b"\xff"  # how gzip begins here: no name, no time, no system
 HOW = """\
 All files of an audit, and everything that was typed in it
 ==========================================================
@@ -26,8 +27,8 @@ The same by the shell alone: put the folder of the release on the path, and type
 
     sh THE/FOLDER/OF/THIS/FILE/commands.txt
 
-That the files are those of the audit is for you to see: compare the digests of terms.txt with those that were published before the
-seed was drawn, and the SHA-256 of commands.txt with the one that was published at the end.
+Whether these are the files of the audit is for you to check: compare the digests in terms.txt with those that were published before
+the seed was drawn, and the SHA-256 of commands.txt with the one that was published at the end.
 """
 
 

@@ -1,6 +1,6 @@
 """What is typed at each step, for each kind of audit."""
 import record
-from audit import BALLOTS, COMPARISON, CONFIRMED, CONTESTS, COUNTED, MANIFEST, NAMES, PLURALITY, POLL, UNCONFIRMED
+from audit import BALLOTS, BOXES, COMPARISON, CONFIRMED, CONTESTS, COUNTED, MANIFEST, NAMES, PLURALITY, POLL, SEEN, UNCONFIRMED
 from running import call, Call
 
 TIED, SPENT = 3, 4
@@ -8,7 +8,7 @@ ANSWERS_OF_ROUND = (CONFIRMED, UNCONFIRMED)
 
 
 def contest_words(audit):
-    """None where the ballot file has one contest alone, as README types it."""
+    """No words if the ballot file has only one contest, as README types it."""
     return [f"--contest={audit.contest.id}"] if len(audit.contests) > 1 else []
 
 
@@ -17,7 +17,7 @@ def budget_words(audit):
 
 
 def terms_words(audit):
-    return [f"--limit={audit.limit}", f"--gamma={audit.gamma}"]
+    return [f"--limit={audit.limit}", f"--gamma={audit.gamma}", *["--each"] * audit.is_each]
 
 
 def draws_words(audit, round):
@@ -42,12 +42,15 @@ def convert(form, files, options):
 
 
 def boxes(audit):
-    """The cards of the manifest compared with the records; records that name no card aren't asked."""
+    """The cards of the manifest compared with the records; records that name no card aren't asked.
+
+    A plurality contest is opened with a seed that nobody uses: a tie is told before the terms are fixed.
+    """
     if audit.kind == POLL:
         return [call("sample", MANIFEST, "--seed=none", "--draws=1")]
-    if audit.kind == CONTESTS:
-        return [call("boxes", BALLOTS, MANIFEST, f"--contest={each.id}", out=f"boxes_{each.number}.txt") for each in audit.contests]
-    return [call("boxes", BALLOTS, MANIFEST, *contest_words(audit), out="boxes.txt")]
+    words = contest_words(audit) if audit.kind != CONTESTS else []
+    opened = [call("plurality", BALLOTS, MANIFEST, *words, "--seed=none")] * (audit.kind == PLURALITY)
+    return [call("boxes", BALLOTS, MANIFEST, *words, out=BOXES), *opened]
 
 
 # ---- assertions and plan
@@ -112,26 +115,31 @@ def agree(audit, number):
 def round_of(audit, round):
     """The count of a round, with what was seen in all rounds so far."""
     parts = [f"seen{number}.csv" for number in range(1, round.number + 1)]
-    together = [Call(("cat", *parts), {0: "seen.csv"})] if round.number > 1 else []
+    together = Call(("cat", *parts), {0: SEEN})
     out = audit.answer_of(round)
     counted = Call((record.PROGRAM, *counting_words(audit, round)), dict.fromkeys(ANSWERS_OF_ROUND, out))
-    return [*together, counted, *[call("report", out, out=f"report{round.number}.txt")] * audit.has_report()]
+    return [together, counted, *[call("report", out, out=f"report{round.number}.txt")] * audit.has_report()]
 
 
 def counting_words(audit, round):
-    seen, draws = audit.seen(round.number), f"--draws={round.draws}"
+    draws = f"--draws={round.draws}"
     if audit.kind == POLL:
-        return ["poll", MANIFEST, audit.assertions, seen, *draws_words(audit, round), *terms_words(audit)]
+        return ["poll", MANIFEST, audit.assertions, SEEN, *draws_words(audit, round), *terms_words(audit)]
     if audit.kind == CONTESTS:
-        return ["contests", BALLOTS, MANIFEST, seen, *draws_words(audit, round), *terms_words(audit), *budget_words(audit)]
+        return ["contests", BALLOTS, MANIFEST, SEEN, *draws_words(audit, round), *terms_words(audit), *budget_words(audit)]
     session = f"round{round.number - 1}.json" if round.number > 1 else "open.json"
     if audit.kind == PLURALITY:
-        return ["plurality", session, BALLOTS, MANIFEST, seen, draws]
-    return ["audit", session, BALLOTS, MANIFEST, audit.assertions, seen, draws, *budget_words(audit)]
+        return ["plurality", session, BALLOTS, MANIFEST, SEEN, draws]
+    return ["audit", session, BALLOTS, MANIFEST, audit.assertions, SEEN, draws, *budget_words(audit)]
 
 
 def count(audit):
-    return call("tabulate", COUNTED, *contest_words(audit), out="counted.txt")
+    """A full count of the contest that is audited, tabulated.
+
+    Of a plurality contest it is judged and no more: an instant runoff may elect somebody else, or be tied.
+    """
+    out = None if audit.kind == PLURALITY else "counted.txt"
+    return call("tabulate", COUNTED, f"--contest={audit.contest.id}", out=out, otherwise={TIED: out, SPENT: out})
 
 
 def show(audit):
@@ -140,11 +148,11 @@ def show(audit):
     counted = [COUNTED] if COUNTED in audit.files else []
     terms = [*draws_words(audit, last), *terms_words(audit)]
     if audit.kind == POLL:
-        words = [MANIFEST, audit.assertions, audit.seen(last.number), *terms]
+        words = [MANIFEST, audit.assertions, SEEN, *terms]
     elif audit.kind == CONTESTS:
-        words = [BALLOTS, MANIFEST, audit.seen(last.number), *terms, *budget_words(audit)]
+        words = [BALLOTS, MANIFEST, SEEN, *terms, *budget_words(audit)]
     else:
         assertions = [audit.assertions] if audit.kind == COMPARISON else []
         names = [NAMES] if audit.names and len(audit.contests) == 1 else []
-        words = [BALLOTS, MANIFEST, *assertions, audit.answer_of(last), audit.seen(last.number), *counted, *names, *budget_words(audit)]
+        words = [BALLOTS, MANIFEST, *assertions, audit.answer_of(last), SEEN, *counted, *names, *budget_words(audit)]
     return call("show", *words, out="page.html")

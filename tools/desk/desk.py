@@ -56,6 +56,11 @@ class Desk:
             raise
         self.thread.join(PATIENCE)
 
+    def drop_notice(self, step):
+        """What was said of a step isn't said any longer."""
+        if self.notice and self.notice.step == step:
+            self.notice = None
+
     def drop(self):
         """Ends a deed that never began to run."""
         try:

@@ -24,7 +24,7 @@ class Flow:
             yield step(self.audit)
 
     def of_rounds(self):
-        """The steps of the rounds that are begun, and of one more where none is open."""
+        """The steps of the rounds that are begun, and of one more if none is open."""
         begun = len(self.audit.rounds())
         is_open = begun > 0 and f"round{begun}" not in self.audit.deeds
         is_over = self.audit.is_signed_off() or any(step.key in self.audit.deeds for step in LAST)

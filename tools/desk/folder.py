@@ -3,6 +3,7 @@
 A deed is done in a scratch folder and becomes the folder's at one instant, when the new commands.txt takes the place of the old one.
 Whatever ends the desk before or after that instant, `recover` finds the folder as it was before the deed or as it is after it.
 """
+import contextlib
 import fcntl
 import hashlib
 import os
@@ -48,26 +49,40 @@ def is_own(path):
     return os.path.isfile(path) and not os.path.islink(path)
 
 
+def missing_folders(path):
+    """The folders on the way to this one that aren't there, and itself, the innermost first."""
+    missing = []
+    while path and not os.path.lexists(path):
+        missing.append(path)
+        path = os.path.dirname(path)
+    return missing
+
+
 class Folder:
     def __init__(self, path):
         self.path, self.scratch = path, os.path.join(path, SCRATCH)
         self.record, self.version = [], ""
         self.is_locked_by = None
+        self.new = []  # what opening it made: a record, and folders, the innermost first
 
     # ---- opening
 
     def open(self):
         """Locks the folder, reads its record, and ends what a desk that was killed had begun."""
         try:
+            missing = missing_folders(self.path)
             os.makedirs(self.path, exist_ok=True)
             self.lock()
             if not os.path.exists(self.place(record.NAME)):
                 self.begin_record()
+                self.new = [self.place(record.NAME), *missing]
             self.read()
             self.recover()
             self.drop_cut_off_drafts()
             self.see_writable()
             self.see_undamaged()
+        except FileExistsError as fault:
+            raise Unusable(f"{fault.filename}: is a file, and a folder is needed") from None
         except OSError as fault:
             raise Unusable(f"{self.path}: {fault.strerror}") from None
 
@@ -78,6 +93,12 @@ class Folder:
             fcntl.flock(self.is_locked_by, fcntl.LOCK_EX | fcntl.LOCK_NB)
         except BlockingIOError:
             raise Unusable(f"{self.path}: another desk has this folder open; end that one first") from None
+
+    def drop_new(self):
+        """Removes what opening the folder made, if nothing was done in it."""
+        with contextlib.suppress(OSError):
+            for path in self.new:
+                os.unlink(path) if is_own(path) else os.rmdir(path)
 
     def begin_record(self):
         others = [name for name in os.listdir(self.path) if name != SCRATCH]

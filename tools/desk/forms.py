@@ -2,8 +2,10 @@
 import re
 from decimal import Decimal, InvalidOperation
 
-MOST_TEXT = 2_000
+MOST_TEXT, MOST_LINES = 2_000, 100
 PERCENT_IN_MILLIONTHS = 10_000
+WHOLE = re.compile("[0-9]{1,10}|[0-9]{1,3}(,[0-9]{3}){1,3}")  # with commas between thousands, or without
+DECIMAL_COMMA = re.compile("[0-9]+,[0-9]+")
 
 
 class Wrong(Exception):
@@ -26,16 +28,30 @@ class Form:
     def option(self, name, what, most=MOST_TEXT):
         return self.text(name, what, most) if self.values.get(name, "").strip() else ""
 
+    def all_lines(self, name, what):
+        """The lines of a text that aren't empty."""
+        lines = [line for line in self.values.get(name, "").replace("\r", "").split("\n") if line.strip()]
+        if len(lines) > MOST_LINES or not all(len(line) <= MOST_TEXT and line.isprintable() for line in lines):
+            raise Wrong(f"{what}: up to {MOST_LINES} lines, each of up to {MOST_TEXT} characters, without tabs.")
+        return lines
+
     def number(self, name, what, low, high):
-        text = self.values.get(name, "").strip().replace(",", "")
-        if not re.fullmatch("[0-9]{1,10}", text) or not low <= int(text) <= high:
+        text = self.values.get(name, "").strip()
+        if not WHOLE.fullmatch(text):
+            advice = " Commas stand only between thousands, such as 1,200." if "," in text else ""
+            raise Wrong(f"{what} is a whole number from {low:,} to {high:,}.{advice}")
+        number = int(text.replace(",", ""))
+        if not low <= number <= high:
             raise Wrong(f"{what} is a whole number from {low:,} to {high:,}.")
-        return int(text)
+        return number
 
     def millionths(self, name, what):
         """A percentage, as it is typed, in millionths."""
+        text = self.values.get(name, "").strip().rstrip("%").strip()
+        if DECIMAL_COMMA.fullmatch(text):
+            raise Wrong(f"{what} has a comma. Write {text.replace(',', '.')}, with a point.")
         try:
-            value = Decimal(self.values.get(name, "").strip().rstrip("%").strip()) * PERCENT_IN_MILLIONTHS
+            value = Decimal(text) * PERCENT_IN_MILLIONTHS
         except InvalidOperation:
             value = Decimal(0)
         if not value.is_finite() or value != value.to_integral_value() or not 0 < value < 1_000_000:

@@ -70,6 +70,7 @@ def serve(given, place):
     place.open()
     end_drafts(Audit(place))
     if not is_built():
+        place.drop_new()
         sys.stderr.write(f"{NAME}: there is no program to run\n")
         return BAD_WORDS
     desk = Desk(place)
@@ -77,6 +78,7 @@ def serve(given, place):
     try:
         serving = server.made(pages.app, pages.guard, HOST, given.port, pages.most_body_bytes(), place.path)
     except OSError as fault:
+        place.drop_new()
         sys.stderr.write(f"{NAME}: {HOST}:{given.port}: {fault.strerror}; --port gives another port\n")
         return UNUSABLE
     signal.signal(signal.SIGTERM, lambda *_: sys.exit(0))

@@ -17,7 +17,7 @@ from limits import MOST_FILE_BYTES
 from replies import REPLIES
 from safety import Guard
 from steps import Plan, Seed, Terms
-from steps_of_rounds import Read
+from steps_of_rounds import Fetch, Read
 
 HERE = os.path.dirname(os.path.abspath(__file__))
 STYLES = {"style.css": os.path.join(os.path.dirname(HERE), "page"), "desk.css": HERE, "desk.js": HERE}
@@ -91,6 +91,8 @@ class Pages:
         if self.desk.is_busy():
             return flask.redirect("/running", 303)
         audit, flow, step = self.found(name)
+        if wrong:
+            self.desk.drop_notice(name)  # what is said last is said alone
         notice = self.desk.notice if self.desk.notice and self.desk.notice.step == name else None
         parts = {"step": step, "wrong": wrong, "notice": notice, "told": told, "values": flask.request.form if wrong else {}}
         return self.shown(f"steps/{step.key}.html.j2", audit, flow, **parts), status
@@ -144,10 +146,10 @@ class Pages:
         self.desk.begin(step.name, flask.request.form.get("version", ""), lines, replaces=step.is_done, **given)
 
     def preview(self, name):
-        """Terms or a seed, once more before they are fixed."""
+        """Terms, a seed or a number of draws, once more before they are fixed."""
         form = self.form()
         audit, flow, step = self.found(name)
-        if not flow.may_do(step) or not isinstance(step, (Terms, Seed)):
+        if not flow.may_do(step) or not isinstance(step, (Terms, Seed, Fetch)):
             raise Outdated
         try:
             preview = step.preview(form)
@@ -208,7 +210,7 @@ class Pages:
                 draft.person = readings.person_of(form)
                 other = readings.Draft(audit, number, next(each for each in READERS if each != reader))
                 if draft.person.lower() == other.person.lower():
-                    raise Wrong(f"{other.person} is the other reader. Two people read each card, apart from each other.")
+                    raise Wrong(f"{other.person} is the other reader. Two people read each card separately. Give another name.")
             except Wrong as wrong:
                 return self.card(number, reader, wrong=str(wrong), status=400)
             draft.keep()
@@ -222,27 +224,33 @@ class Pages:
             card = next((each for each in draft.cards if each.id == flask.request.form.get("card")), None) or flask.abort(404)
             try:
                 if flask.request.form.get("was") != readings.mark_of(draft.of(card.id)):
-                    raise Wrong("Another page has changed the reading of this card meanwhile. The reading as it is now is below.")
+                    raise Wrong("A reading of this card was saved since this page was loaded. The reading as it is now is below.")
                 draft.readings[card.id] = readings.reading_of(form, draft.contests)
             except Wrong as wrong:
                 return self.card(number, reader, wrong=str(wrong), status=400, card=card.id)
-            draft.keep()
+            self.keep(draft, step)
         following = draft.next(card.id)
         return flask.redirect(f"/read/{number}/{reader}?card={urllib.parse.quote(following.id)}" if following else f"/step/{step.name}", 303)
+
+    def keep(self, draft, step):
+        """Keeps a draft. What was said of readings that differ isn't said any longer once none do."""
+        draft.keep()
+        if not step.different(step.drafts()):
+            self.desk.drop_notice(step.name)
 
     def take_sheet(self, number, reader):
         """The readings of a file go into the reader's draft, all or none."""
         form = self.form()
         with self.desk.drafting:
             audit, flow, step, draft = self.drafts(number, reader)
-            if not draft.person or len(draft.contests) != 1:
+            if not draft.person:
                 flask.abort(404)
             try:
                 text = form.file("readings", "a seen file").read().decode(errors="replace")
                 draft.readings.update(readings.readings_in(text, draft))
             except Wrong as wrong:
                 return self.card(number, reader, wrong=str(wrong), status=400)
-            draft.keep()
+            self.keep(draft, step)
         return flask.redirect(f"/read/{number}/{reader}" if draft.left() else f"/step/{step.name}", 303)
 
     # ---- what goes wrong

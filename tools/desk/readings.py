@@ -120,10 +120,10 @@ def ranking_of(form, contest, is_one_of_several):
     found = [candidate_of(contest, mark) for mark in marks if mark]
     if way != RANKED:
         if found:
-            raise Wrong(f"{where}Candidates are marked. Remove these marks, or say that somebody is ranked.")
+            raise Wrong(f"{where}Candidates are marked. Remove these marks, or choose “Somebody is ranked”.")
         return []
     if not found:
-        raise Wrong(f"{where}Nothing is marked. Rank candidates, or say that nobody is ranked or that the contest isn’t on the card.")
+        raise Wrong(f"{where}Nothing is marked. Rank candidates, or choose “Nobody is ranked” or “The contest isn’t on the card”.")
     if len(set(found)) < len(found):
         raise Wrong(f"{where}A candidate has two ranks, and a seen file can’t say that. Mark the ranks that count by the rules of the contest.")
     if not all(marks[:len(found)]):
@@ -139,34 +139,54 @@ def candidate_of(contest, mark):
 
 
 def readings_in(text, draft):
-    """The readings of a seen file of one contest, such as a sheet that was filled in. Cards without a reading are passed over."""
-    [contest], cards, found = draft.contests, {card.id for card in draft.cards}, {}
-    for at, (card, word, *ranked) in enumerate(rows_of(text), 1):
+    """The readings of a seen file, such as a sheet that was filled in. Cards without a reading are passed over.
+
+    Of several contests each record has the id of its contest after the card's, and a card is read in all of them or in none.
+    """
+    cards, found, ids = {card.id for card in draft.cards}, {}, {each.id: each for each in draft.contests}
+    for at, (card, contest, word, *ranked) in enumerate(rows_of(text, draft.contests), 1):
         ranked = list(dict.fromkeys(filter(None, ranked)))
         if card and card not in cards:
             raise Wrong(f"Record {at}: {card} is no card of this round.")
-        if card in found:
-            raise Wrong(f"Record {at}: {card} was there before.")
+        if card and contest not in ids:
+            raise Wrong(f"Record {at}: {contest or 'nothing'} is no contest of this audit. The contests are {', '.join(ids)}.")
+        if contest in found.get(card, {}):
+            raise Wrong(f"Record {at}: {card} is listed twice{f' for {contest}' if len(ids) > 1 else ''}.")
         if word or ranked:
-            see_reading(at, card, word, ranked, contest.candidates)
-            found[card] = MISSING if word == MISSING else {str(contest.number): ranked}
-    return found
+            see_reading(at, card, word, ranked, ids[contest].candidates)
+            found.setdefault(card, {})[contest] = MISSING if word == MISSING else ranked
+    if not found:
+        raise Wrong("This file has no reading: nothing is filled in.")
+    return {card: reading_of_contests(card, of_card, ids) for card, of_card in found.items()}
 
 
-def rows_of(text):
-    """The records of a text, each with two fields at least and without blanks around them."""
+def reading_of_contests(card, found, contests):
+    """The reading of a card, whose contests are all read, or all missing."""
+    if left := [name for name in contests if name not in found]:
+        raise Wrong(f"{card} has no reading for {left[0]}. Write a record for each contest, also if the card doesn’t have it.")
+    missing = [name for name in contests if found[name] == MISSING]
+    if missing and len(missing) < len(contests):
+        raise Wrong(f"{card} is missing for {missing[0]} and read for another contest. A card that can’t be found is missing in each.")
+    return MISSING if missing else {str(contest.number): found[name] for name, contest in contests.items()}
+
+
+def rows_of(text, contests):
+    """The records of a text: a card, a contest, a word and more, without blanks around them. Of one contest no record names it."""
     try:
         rows = list(csv.reader(io.StringIO(text.removeprefix("\ufeff"), newline="")))
     except csv.Error as fault:
-        raise Wrong(f"This is no comma-separated text: {fault}.") from None
-    return [[field.strip() for field in row] + [""] * (2 - len(row)) for row in rows]
+        raise Wrong(f"This is not a comma-separated file: {fault}.") from None
+    for row in rows:
+        card, *rest = [field.strip() for field in row] or [""]
+        contest, *rest = [contests[0].id, *rest] if len(contests) == 1 else rest or [""]
+        yield [card, contest, *(rest or [""])]
 
 
 def see_reading(at, card, word, ranked, candidates):
-    if word not in ("ballot", MISSING) or (word == MISSING and ranked):
-        raise Wrong(f"Record {at}: after {card} comes neither ballot, with those who are ranked, nor missing alone.")
+    if not card or word not in ("ballot", MISSING) or (word == MISSING and ranked):
+        raise Wrong(f"Record {at}: after {card or 'the card'}, write either ballot and the ranked candidates, or only missing.")
     if strangers := [name for name in ranked if name not in candidates]:
-        raise Wrong(f"Record {at}: {strangers[0]} is no candidate; they are {', '.join(candidates)}.")
+        raise Wrong(f"Record {at}: {strangers[0]} is no candidate. The candidates are {', '.join(candidates)}.")
 
 
 def differences(drafts):

@@ -34,8 +34,11 @@ made() {
     shift
     while [ $# -gt 0 ]; do echo "$1  $2" | sha256sum --check --quiet - || exit 1; shift 2; done
 }
-joined() { # CONTEST FILE ..: each contest's id after the cards' ids of its file
-    while [ $# -gt 0 ]; do contest=$1 awk '{ i = index($0, ","); print substr($0, 1, i) ENVIRON["contest"] substr($0, i) }' "$2"; shift 2; done
+joined() { # CONTEST FILE ..: card by card, with each contest's id after the card's
+    while [ $# -gt 0 ]; do
+        contest=$1 awk '{ i = index($0, ","); print FNR "," substr($0, 1, i) ENVIRON["contest"] substr($0, i) }' "$2"
+        shift 2
+    done | LC_ALL=C sort -s -t , -k 1,1n | cut -d , -f 2-
 }
 """
 STEP, END = "# step ", "# sha256 of the lines above: "
@@ -125,7 +128,8 @@ def record_of(text):
     """The record that a text says; a text that no record has is refused at the line where it differs."""
     head = HEAD.count("\n")
     if not text.startswith(HEAD):
-        raise Broken(1, "this is no commands.txt of a desk")
+        is_older = text.startswith("\n".join(HEAD.split("\n", 2)[:2]))
+        raise Broken(1, "another version of the desk wrote this: continue with that version, or by hand" if is_older else "this is no commands.txt of a desk")
     record, lines = [], list(enumerate(text.split("\n")[head:], head + 1))
     while lines and not lines[0][1].startswith(END):
         at, line = lines.pop(0)
@@ -143,8 +147,8 @@ def see_same(text, wanted):
     if text == wanted:
         return
     pairs = zip(text.splitlines() + [""], wanted.splitlines() + [""])
-    at = next((at for at, (one, other) in enumerate(pairs, 1) if one != other), 1)
-    raise Broken(at, "was changed: the desk doesn't write it so")
+    at, line = next(((at, one) for at, (one, other) in enumerate(pairs, 1) if one != other), (1, ""))
+    raise Broken(at, "isn't the SHA-256 of the lines above; some line was changed" if line.startswith(END) else "isn't as a desk writes it")
 
 
 def entry_of(at, line, lines):
@@ -162,8 +166,8 @@ def entry_of(at, line, lines):
 def words_of(at, line):
     try:
         return shlex.split(line)
-    except ValueError as fault:
-        raise Broken(at, str(fault)) from None
+    except ValueError:
+        raise Broken(at, "ends in the middle of a word") from None
 
 
 def made_of(at, line):

@@ -1,4 +1,5 @@
 """Runs what is typed: one command after the other, in the scratch folder, with an end at any time."""
+import itertools
 import os
 import signal
 import subprocess
@@ -71,7 +72,7 @@ class Runner:
         return record.Given(upload.name, digest_of_file(path))
 
     def fresh(self, name):
-        """The path of a file that is about to be made, where none is in its way."""
+        """The path of a file that is about to be made, with nothing in its way."""
         path = os.path.join(self.folder, name)
         if os.path.lexists(path):
             os.unlink(path)
@@ -109,12 +110,17 @@ class Runner:
     def put_together(self, call, path):
         """What `cat` and `joined` of commands.txt do."""
         self.line = call.line()
-        parts = [(None, name) for name in call.words[1:]] if call.words[0] == "cat" else zip(call.words[1::2], call.words[2::2])
         with open(path, "x", encoding="utf-8", newline="") as out:
-            for contest, name in parts:
-                with open(os.path.join(self.folder, name), encoding="utf-8", newline="") as file:
-                    out.writelines(line if contest is None else with_contest(line, contest) for line in file)
+            if call.words[0] == "cat":
+                out.writelines(line for name in call.words[1:] for line in self.lines_of(name))
+            else:
+                columns = [[with_contest(line, contest) for line in self.lines_of(name)] for contest, name in zip(call.words[1::2], call.words[2::2])]
+                out.writelines(line for of_card in itertools.zip_longest(*columns, fillvalue="") for line in of_card)
         return 0, ""
+
+    def lines_of(self, name):
+        with open(os.path.join(self.folder, name), encoding="utf-8", newline="") as file:
+            return list(file)
 
     def beginning(self, path):
         """How the answer of a command began that isn't kept."""

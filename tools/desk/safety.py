@@ -37,7 +37,7 @@ class Guard:
         return f"{self.origin}/?key={self.first_key}"
 
     def refusal(self, method, path, query, header):
-        """The status with which a request is refused by its headers alone; 0 where it isn't."""
+        """The status with which a request is refused by its headers alone; 0 if it isn't."""
         if header("Host") != self.host:
             return 421
         if method not in METHODS:

@@ -1,13 +1,12 @@
 """The steps of an audit up to the seed: what each does with what is typed in. A step is one deed of the record."""
-import csv
 import io
 
 import calls
 import exports
 import plain_audit
-from audit import BALLOTS, CONTESTS, contests_of, HEAD_BYTES, KINDS, MANIFEST, PLURALITY, POLL
+from audit import BALLOTS, BEST, COMPARISON, CONTESTS, contests_of, EACH, HEAD_BYTES, KINDS, MANIFEST, PLURALITY, POLL
 from forms import Wrong
-from limits import GREATEST_GAMMA, MOST_DRAWS, MOST_NODES, MOST_SEED_BYTES, MOST_SETS
+from limits import GREATEST_EACH_GAMMA, GREATEST_GAMMA, MOST_DRAWS, MOST_NODES, MOST_SEED_BYTES, MOST_SETS
 from record import Choice
 from running import Upload
 from terms import text_of_terms
@@ -60,14 +59,14 @@ class Records(Step):
         key = form.chosen("format", "a form of export", exports.FORMATS)
         vendor, streams = exports.FORMATS[key], form.all_files("exports", "the files of the export")
         if len(streams) > vendor.most_files:
-            raise Wrong(f"Of this form up to {vendor.most_files} files can be given.")
+            raise Wrong(f"This form takes up to {vendor.most_files} file{'s' * (vendor.most_files > 1)}.")
         names = [exports.name_of(number, vendor, stream) for number, stream in enumerate(streams, 1)]
         options = exports.options_of(form, key)
         return [*map(Upload, names, streams), calls.convert(key, names, options)]
 
 
 def heads_of(stream):
-    """The contests of a ballot file that was given; none where the program is to say what is wrong with it."""
+    """The contests of a ballot file that was given; none if it can't be read: then the program says what is wrong with it."""
     head = stream.read(HEAD_BYTES)
     stream.seek(0)
     try:
@@ -86,12 +85,20 @@ class Account(Step):
         lines, ticked = self.account(), set(form.ticked("line"))
         left = [line for number, line in enumerate(lines, 1) if str(number) not in ticked]
         if left:
-            raise Wrong(f"Of {len(lines)} lines {len(left)} aren’t ticked, such as “{left[0].strip()}”. Compare each with the vendor’s system.")
+            told = f"{len(left)} of {len(lines)} lines aren’t checked off, such as “{left[0].strip()}”."
+            raise Wrong(f"{told} Compare each line with the vendor’s system.")
         return [Choice("account", "confirmed")]
 
 
 class Contest(Step):
     key, title = "contest", "What is audited"
+
+    def advised(self):
+        """How the records suggest that they are audited: by what was converted, or by the number of contests."""
+        converted = [word for line in self.audit.commands("records") for word in line.words]
+        if "--as=plurality" in converted:
+            return PLURALITY
+        return COMPARISON if len(self.audit.contests) == 1 else CONTESTS
 
     def lines(self, form):
         kind = form.chosen("audit", "how the contest is audited", KINDS)
@@ -110,10 +117,6 @@ class Cards(Step):
         stream = form.file("manifest", "a manifest")
         cast = form.number("cast", "The number of ballots that were cast", 1, MOST_BALLOTS)
         return [Upload(MANIFEST, stream), Choice("cast", str(cast)), *calls.boxes(self.audit)]
-
-
-    def manifest_cards(self):
-        return cards_of_manifest(self.audit.text(MANIFEST))
 
 
 class Assertions(Step):
@@ -142,25 +145,28 @@ class Plan(Step):
 
     def lines(self, form):
         limit = form.millionths("limit", "The risk limit")
-        gamma = form.number("gamma", "Gamma", 1, GREATEST_GAMMA)
-        return [Choice("limit", str(limit)), Choice("gamma", str(gamma)), *calls.plans(self.audit, limit, gamma)]
+        is_each = self.audit.kind == POLL and form.option("looks", "When the poll looks") == EACH
+        is_best = is_each and form.option("gamma", "Gamma") in ("", BEST)
+        gamma = BEST if is_best else form.number("gamma", "Gamma", 1, GREATEST_EACH_GAMMA if is_each else GREATEST_GAMMA)
+        return [Choice("limit", str(limit)), Choice("gamma", str(gamma)), *[Choice("looks", EACH)] * is_each, *calls.plans(self.audit, limit, gamma)]
 
     def usual_gamma(self):
-        return 500 if self.audit.kind == POLL else 100
+        return BEST if self.audit.kind == POLL else 100
 
     def planned_draws(self):
-        """The draws that a plan says for all assertions, where it isn't a full count."""
-        told = self.audit.text("plan.txt").rsplit("all: ", 1)[-1].split(" ")[0]
-        return int(told) if told.isdigit() else None
+        """The draws that are enough for all assertions, of contests that need no full count; None if there are none."""
+        files = [f"plan_{each.number}.txt" for each in self.audit.audited()] if self.audit.kind == CONTESTS else ["plan.txt"]
+        told = [self.audit.text(name).rsplit("all: ", 1)[-1].split(" ")[0] for name in files]
+        return max((int(draws) for draws in told if draws.isdigit()), default=None)
 
     def hours(self, figures):
-        """How many different cards, and how many hours, an office's own figures make of a number of draws; nothing where they are none."""
+        """The different cards and the hours that an office's own figures make of a number of draws; None if the figures can't be used."""
         try:
             draws, minutes, teams = int(figures["draws"]), float(figures["minutes"]), int(figures["teams"])
         except (KeyError, ValueError):
             return None
         is_some = 0 < draws <= MOST_DRAWS and 0 < minutes <= MOST_MINUTES and 0 < teams <= MOST_TEAMS
-        return hours_of(draws, cards_of_manifest(self.audit.text(MANIFEST)), minutes, teams) if is_some else None
+        return hours_of(draws, self.audit.cards, minutes, teams) if is_some else None
 
     def trials(self):
         """Plans to look at, with other limits and gammas."""
@@ -178,38 +184,31 @@ class Terms(Step):
         return [Upload("terms.txt", io.BytesIO(self.preview(form).encode())), Choice("rounds", " ".join(map(str, rounds)))]
 
     def rounds(self, form):
-        return rounds_of(form.text("rounds", "The numbers of draws"))
+        return rounds_of(form.text("rounds", "The list of the numbers of draws"))
 
     def preview(self, form):
         """The page of terms."""
-        return text_of_terms(self.audit, self.rounds(form), form.text("how", "How the seed comes about"))
+        return text_of_terms(self.audit, self.rounds(form), form.text("how", "The text about how the seed is made"))
 
     def advised_rounds(self):
-        """What the plan says, and twice as many."""
+        """The draws of the plan, and twice as many."""
         draws = Plan(self.audit).planned_draws()
         return f"{draws} {2 * draws}" if draws and 2 * draws <= MOST_DRAWS else ""
 
 
-def cards_of_manifest(text):
-    """The number of cards of a manifest that the program has accepted."""
-    rows = csv.reader(io.StringIO(text, newline=""))
-    next(rows)
-    return sum(int(row[1]) for row in rows if any(row))
-
-
 def hours_of(draws, cards, minutes, teams):
-    """The different cards that so many draws are likely to take, and the hours of fetching and reading them."""
+    """The different cards that a number of draws is likely to take, and the hours of fetching and reading them."""
     different = cards * (1 - (1 - 1 / cards) ** draws)
     return round(different), round(different * minutes / 60 / teams, 1)
 
 
 def rounds_of(text):
-    parts = text.replace(",", " ").split()
-    if not all(part.isascii() and part.isdigit() and 0 < int(part) <= MOST_DRAWS for part in parts):
-        raise Wrong(f"The numbers of draws are whole numbers from 1 to {MOST_DRAWS:,}, with blanks between.")
+    parts = text.replace(", ", " ").split()
+    if not parts or not all(part.isascii() and part.isdigit() and 0 < int(part) <= MOST_DRAWS for part in parts):
+        raise Wrong(f"The numbers of draws are whole numbers from 1 to {MOST_DRAWS:,}, with blanks between and without commas in them.")
     rounds = list(map(int, parts))
     if any(later <= earlier for earlier, later in zip(rounds, rounds[1:])):
-        raise Wrong("Each number counts all draws so far, so each is above the one before.")
+        raise Wrong("Each number counts all draws so far, so each is larger than the one before.")
     return rounds
 
 
@@ -225,10 +224,10 @@ class Seed(Step):
 
 
 def seed_of(form):
-    """The seed, where both fields have the same."""
+    """The seed, if both fields have the same."""
     seed, again = form.values.get("seed", ""), form.values.get("again", "")
     if not 1 <= len(seed) <= MOST_SEED_BYTES or not all(" " <= c <= "~" for c in seed):
-        raise Wrong(f"A seed has 1 to {MOST_SEED_BYTES} characters: letters from space to ~.")
+        raise Wrong(f"A seed has 1 to {MOST_SEED_BYTES} characters: letters without accents, digits, punctuation and blanks.")
     if seed != again:
         raise Wrong("The two seeds aren’t the same. Type both again, each from what was written down.")
     return seed

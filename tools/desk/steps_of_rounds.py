@@ -1,15 +1,27 @@
 """The steps from the first drawn card to the end: cards are fetched, read by two people and counted, until the audit is signed off."""
 import io
 import math
+from typing import NamedTuple
 
+import ballots
 import calls
+import plain_risk
 import readings
 from audit import COUNTED, READERS, Round
 from forms import Wrong
 from limits import MOST_DRAWS
 from record import Choice
 from running import Upload
-from steps import Step
+from steps import heads_of, Step
+
+
+class Drawn(NamedTuple):
+    """A number of draws before it is confirmed: the cards that it takes, the new ones of them, and the number that the terms have."""
+    draws: int
+    before: int
+    cards: int
+    new: int
+    advised: int
 
 
 class Fetch(Step):
@@ -23,14 +35,26 @@ class Fetch(Step):
     def cards(self):
         return readings.cards_of(self.audit, self.number)
 
+    def draws(self):
+        """The draws of this round and those before it, once it is done."""
+        return self.audit.rounds()[self.number - 1].draws
+
     def advised(self):
         """The number of draws that the terms say comes next."""
         return next((draws for draws in self.audit.planned_rounds() if draws > self.before()), None)
 
+    def typed(self, form):
+        return form.number("draws", "The number of draws, which counts all so far,", self.before() + 1, MOST_DRAWS)
+
+    def preview(self, form):
+        """What the draws come to, to be looked at before they are made."""
+        draws, seed, cards, before = self.typed(form), self.audit.seed, self.audit.cards, self.before()
+        places = [plain_risk.drawn(seed, k, cards) for k in range(1, draws + 1)]
+        return Drawn(draws, before, len(set(places)), len(set(places) - set(places[:before])), self.advised())
+
     def lines(self, form):
-        before = self.before()
-        draws = form.number("draws", "The number of draws, which counts all so far,", before + 1, MOST_DRAWS)
-        return [Choice("draws", str(draws)), *calls.cards(self.audit, Round(self.number, draws, before))]
+        draws = self.typed(form)
+        return [Choice("draws", str(draws)), *calls.cards(self.audit, Round(self.number, draws, self.before()))]
 
 
 class Read(Step):
@@ -83,7 +107,15 @@ class FullCount(Step):
     key, title = "count", "Full count"
 
     def lines(self, form):
-        return [Upload(COUNTED, form.file("counted", "the ballot file of the full count")), calls.count(self.audit)]
+        stream, contest = form.file("counted", "the ballot file of the full count"), self.audit.contest
+        counted = next((each for each in heads_of(stream) if each.id == contest.id), contest)  # without it the program refuses the file
+        if counted.candidates != contest.candidates:
+            told = f"In this file, {contest.id} has the candidates {', '.join(counted.candidates)}. In the audit, it has {', '.join(contest.candidates)}."
+            raise Wrong(f"{told} Give the ballot file of the same contest, with the same candidates in the same order.")
+        return [Upload(COUNTED, stream), calls.count(self.audit)]
+
+    def left_out(self):
+        return ballots.left_out(self.audit)
 
 
 class End(Step):
@@ -93,10 +125,13 @@ class End(Step):
     def lines(self, form):
         return [calls.show(self.audit)]
 
+    def left_out(self):
+        return ballots.left_out(self.audit)
 
-def likely_draws(risk, draws, limit):
-    """How many draws are likely to be enough, if the next ones are seen as those so far; None where no number is."""
+
+def likely_draws(risk, draws, limit, cards):
+    """How many draws are likely to be enough, if the next cards are like those so far; None if a full count is less work."""
     if not 0 < risk < 1:
         return None
     needed = math.ceil(draws * math.log(limit) / math.log(risk))
-    return needed if needed <= MOST_DRAWS else None
+    return needed if needed <= min(cards, MOST_DRAWS) else None

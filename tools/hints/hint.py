@@ -1,4 +1,4 @@
-#!/usr/bin/env python3
+#!/usr/bin/python3
 """Says in one line what a refusal of the program means, which record it is about, and what is nearly right.
 
 tools/hints/hint.py PROGRAM STATUS WORDS.. is what ./raire asks behind a refusal, and behind a budget that is spent, of which the words alone tell
@@ -17,7 +17,7 @@ import rules  # noqa: E402
 import table  # noqa: E402
 import words  # noqa: E402
 
-POINTER = "./raire help tells the commands, ./raire help COMMAND the files and options of one"
+POINTER = "./raire help lists the commands, ./raire help COMMAND the files and options of one"
 OF_BALLOTS = {
     "B2": rules.contest_record, "B3": rules.number_of_candidates, "B4": rules.wrong_id, "B6": rules.short_ballot, "B7": rules.other_contest,
     "B8": rules.ranked_nobody, "B9": rules.recorded_twice, "B10": rules.too_many,
@@ -71,6 +71,10 @@ def found(call, path, said):
         return found_of_seen(call, data, rule, at)
     if rule[0] == "F":
         return rules.no_json(data, "an assertion file") if rule == "F1" else found_of_assertions(call, data, rule, at)
+    if rule == "C1":
+        return rules.no_json(data, "a claims file")
+    if rule[0] == "C":
+        return rules.claims(data, rule, at, *contest_at_hand(call))
     if rule == "S1":
         return rules.no_session(data)
     if rule == "S2" and rules.NO_ASSERTIONS in rest:
@@ -106,6 +110,13 @@ def found_of_seen(call, data, rule, at):
 def contest_of(call):
     """The contest that is meant: of an audit that of its session."""
     return rules.json_members(rules.data_of(call.files["SESSION"]))["contest"] if "SESSION" in call.files else call.options.get("contest")
+
+
+def contest_at_hand(call):
+    """The contest that is asked for, or the only one of the ballot file, and its candidates."""
+    heads = rules.heads_of(rules.data_of(call.files["BALLOTS"]))
+    contest = call.options.get("contest") or next(iter(heads))
+    return contest, heads[contest][0]
 
 
 def seed_of(call):

@@ -15,6 +15,7 @@ from records import has_line_end, listed, quoted, record_at, records, shown
 from table import limits
 
 MOST_UNREAD = 1_000
+BLANK = "\u2423"
 MOST_CONTESTS = 3  # of which all cards are told
 
 
@@ -47,7 +48,7 @@ def looks_like(data):
 def begins(data, wanted):
     """How a file begins that isn't of the kind that is wanted."""
     if not data.strip():
-        return "The file is empty; a > behind the command empties its file first"
+        return "The file is empty; a > after the command empties its file first"
     kind = looks_like(data)
     first = record_at(data[:65_536], 1)
     told = f"It begins with {quoted(first.text if first else data[:60].decode('latin-1'))}"
@@ -74,8 +75,8 @@ def nearly_a_manifest(record, wanted):
         return ""
     told = "" if words == ["batch", "cards"] else "; its letters have to be small"
     if more and not any(more):
-        return told + ("; a comma too many stands" if len(more) == 1 else f"; {len(more)} commas too many stand") + " behind cards"
-    return told + (f"; {quoted(','.join(more))} stands behind them" if more else "")
+        return told + ("; there is a comma too many" if len(more) == 1 else f"; there are {len(more)} commas too many") + " after cards"
+    return told + (f"; {quoted(','.join(more))} comes after them" if more else "")
 
 
 def json_members(data):
@@ -124,11 +125,11 @@ def contest_record(data, at):
         return [f"The file ends before record {at}"]
     fields = record.fields
     if fields[0] != "Contest":
-        told = f'{quoted(fields[0])} stands where "Contest" has to' + semicolons(record)
+        told = f'{quoted(fields[0])} is in the place of "Contest"' + semicolons(record)
     elif len(fields) < 3:
-        told = f"It has {len(fields)} fields, and 3 are wanted at least"
+        told = f"It has {len(fields)} fields; it needs at least 3"
     else:
-        told = f"{quoted(fields[1])} stood before"
+        told = f"{quoted(fields[1])} came before"
     return [told, where(record)]
 
 
@@ -153,7 +154,7 @@ def wrong_id(data, at):
     if fields[0] == "Contest" and at - 2 < int(record_at(data, 1).fields[0]):
         ids += fields[3 : 3 + int(fields[2])]
     wrong = next((text for text in ids if not is_id(text)), None)
-    told = f"{quoted(next((text for text in ids[1:] if ids[1:].count(text) > 1), ''))} stands twice" if wrong is None else why_no_id(wrong)
+    told = f"{quoted(next((text for text in ids[1:] if ids[1:].count(text) > 1), ''))} is repeated" if wrong is None else why_no_id(wrong)
     return [told, where(record)]
 
 
@@ -206,7 +207,7 @@ def stood_before(data, at, fields):
     """B9 and V3: the record that had these fields first."""
     record = record_at(data, at)
     had = next(had for had in records(data) if had.fields[:fields] == record.fields[:fields] and had.number > number_of_heads(data, fields))
-    return [f"{quoted(record.fields[fields - 1])} stood in record {had.number}, line {had.line}", where(record)]
+    return [f"{quoted(record.fields[fields - 1])} is also in record {had.number}, line {had.line}", where(record)]
 
 
 def number_of_heads(data, fields):
@@ -256,7 +257,7 @@ def batch_id(data, at):
     name = record.fields[0]
     had = next(had for had in records(data) if had.fields[0] == name and had.number > 1)
     if had.number < at:
-        return [f"{quoted(name)} stood in record {had.number}, line {had.line}", where(record)]
+        return [f"{quoted(name)} is also in record {had.number}, line {had.line}", where(record)]
     return [why_no_id(name, most_of("MOST_BATCH_BYTES")), where(record)]
 
 
@@ -293,14 +294,14 @@ def seen_record(data, at, has_contest):
     if has_contest and fields[1:2] and fields[1] in WORDS:
         told = f"The contest's id is missing between the card and {quoted(fields[1])}"
     elif not has_contest and fields[2:3] and fields[1] not in WORDS and fields[2] in WORDS:
-        told = f"The contest's id stands between the card and {quoted(fields[2])}: such a file is for ./raire contests alone"
+        told = f"The contest's id is between the card and {quoted(fields[2])}: only ./raire contests reads such a file"
     elif len(fields) < 2 + has_contest:
-        told = f"It has {plural(len(fields), 'field')}" + (", and 3 are wanted at least" if has_contest else "") + semicolons(record)
+        told = f"It has {plural(len(fields), 'field')}" + ("; it needs at least 3" if has_contest else "") + semicolons(record)
     elif fields[1 + has_contest] not in WORDS:
         word = fields[1 + has_contest]
         told = f"{quoted(word)} is no word of a seen card; {meant(word, WORDS, 'they are ' + listed(WORDS))}"
     else:
-        told = f"{quoted(next(text for text in fields[2 + has_contest:] if text))} stands behind missing"
+        told = f"{quoted(next(text for text in fields[2 + has_contest:] if text))} comes after missing"
     return [told, where(record)]
 
 
@@ -308,7 +309,7 @@ def seen_twice(data, at):
     """V3 of a card in a contest: the record that had both first."""
     record = record_at(data, at)
     had = next(had for had in records(data) if had.fields[:2] == record.fields[:2])
-    return [f"{quoted(record.fields[0])} stood with {quoted(record.fields[1])} in record {had.number}, line {had.line}", where(record)]
+    return [f"{quoted(record.fields[0])} is also with {quoted(record.fields[1])} in record {had.number}, line {had.line}", where(record)]
 
 
 def other_contest_seen(record, ballots):
@@ -330,7 +331,15 @@ def drawn_cards(seed, manifest, draws):
 def unread(seed, manifest, seen, draws):
     """V4: all drawn cards that have no record, in the order of their first draws."""
     read, drawn = {record.fields[0] for record in records(seen)}, drawn_cards(seed, manifest, draws)
-    return [told_unread([card for card in drawn if card not in read], drawn, "")]
+    return [*other_draws(seed, read, drawn), told_unread([card for card in drawn if card not in read], drawn, "")]
+
+
+def other_draws(seed, read, drawn):
+    """That the draws may be others than those that were read for, if most of their cards aren't read."""
+    if 2 * len(drawn.keys() - read) <= len(drawn):
+        return []
+    shown = quoted(seed.replace(" ", BLANK)) + f", where each {BLANK} is a blank" * (" " in seed)
+    return [f"Most drawn cards aren't read. If they should be, the seed or the manifest is another one. The seed is {shown}"]
 
 
 def told_unread(left, drawn, of):
@@ -345,7 +354,8 @@ def unread_in_contests(seed, manifest, seen, draws, ballots, k):
     meant = [name for name, cards in left.items() if cards and drawn[cards[0]] == k]
     told = [told_unread(left[name], drawn, f" for {quoted(name)}") for name in meant[:MOST_CONTESTS]]
     return [
-        *told, *[f"So it is for {listed(meant[MOST_CONTESTS:])}"] * bool(meant[MOST_CONTESTS:]), *["A contest that is tied wants none"] * (len(meant) > 1),
+        *other_draws(seed, {card for card, _ in read}, drawn), *told, *[f"So it is for {listed(meant[MOST_CONTESTS:])}"] * bool(meant[MOST_CONTESTS:]),
+        *["A tied contest needs none"] * (len(meant) > 1),
         *without_contest(left, meant, ballots),
     ]
 
@@ -360,9 +370,10 @@ def without_contest(left, meant, ballots):
 
 # ---- assertion files and sessions
 
-MEMBERS = ("assertions", "candidates", "contest", "margin", "order", "records", "version", "winner")
+MEMBERS = ("assertions", "candidates", "contest", "margin", "records", "version", "winner")
 OF_ASSERTION = ("kind", "loser", "margin", "winner")
-TERMS = ("cards", "gamma", "limit")  # of version 2, as the draws of each assertion are
+TERMS = ("cards", "gamma", "limit")  # of a plan, as the draws of each assertion are
+COVER_VERSION = 3  # of a file without an order
 NUMBERS = ("margin", "records", "version", *TERMS)
 OF_SESSION = ("assertions", "ballots", "cards", "contest", "gamma", "limit", "manifest", "margins", "rounds", "seed", "signed_off", "version")
 
@@ -407,7 +418,7 @@ def kinds():
         "assertions": ("a list", lambda value: isinstance(value, list)), "kind": ('"NEB" or "NEN"', lambda value: value in ("NEB", "NEN")),
         **dict.fromkeys(("contest", "loser", "winner"), ("a text in quotes", is_text)),
         **dict.fromkeys(("candidates", "order", "rest"), ("a list of texts in quotes", are_texts)),
-        **dict.fromkeys(NUMBERS, (f"0 to {most_of('MOST_NUMBER')}, in digits alone,", is_counted)),
+        **dict.fromkeys(NUMBERS, (f"0 to {most_of('MOST_NUMBER')}, in digits alone", is_counted)),
     }
 
 
@@ -417,12 +428,14 @@ def wrong_member(value, members):
     if told:
         return told
     wrong = [(name, wanted) for name, (wanted, is_kind) in kinds().items() if name in members and not is_kind(value[name])]
-    return next((f"Its {quoted(name)} is {shown(json.dumps(value[name]), 70)}, and {wanted} is looked for" for name, wanted in wrong), None)
+    return next((f"Its {quoted(name)} is {shown(json.dumps(value[name]), 70)}; it has to be {wanted}" for name, wanted in wrong), None)
 
 
 def wrong_kind(file):
     """F2 at 0"""
-    return wrong_member(file, MEMBERS + TERMS * is_2(file))
+    if is_cover(file) and "order" in file:
+        return f"It says version {COVER_VERSION}, which has no order"
+    return wrong_member(file, MEMBERS + ("order",) * (not is_cover(file)) + TERMS * is_planned(file))
 
 
 def assertion(data, rule, at):
@@ -448,20 +461,25 @@ def wrong_list(file):
     if not int(limits()["FEWEST_CANDIDATES"]) <= len(ids) <= int(limits()["MOST_CANDIDATES"]):
         return f"It has {plural(len(ids), 'candidate')}"
     if twice(ids) is not None:
-        return f"{quoted(twice(ids))} stands twice among the candidates"
-    return wrong_candidate(file, [file["winner"], *file["order"]])
+        return f"{quoted(twice(ids))} is repeated among the candidates"
+    return wrong_candidate(file, [file["winner"], *file.get("order", [])])
 
 
 def wrong_order(names, wanted, what):
     """F5: who stands twice in the order or the rest, or is lacking there."""
     if twice(names) is not None:
-        return f"{quoted(twice(names))} stands twice in the {what}"
+        return f"{quoted(twice(names))} is repeated in the {what}"
     lacks = [name for name in wanted if name not in names]
     return f"The {what} lacks {listed(lacks)}" if lacks else None
 
 
-def is_2(file):
-    return isinstance(file, dict) and file.get("version") == 2
+def is_cover(file):
+    return isinstance(file, dict) and file.get("version") == COVER_VERSION
+
+
+def is_planned(file):
+    """Whether the members of a plan are wanted: in version 2, and in one without an order if it has any of them."""
+    return isinstance(file, dict) and (file.get("version") == 2 or (is_cover(file) and not file.keys().isdisjoint(TERMS)))
 
 
 def wrong_margin(file, margin):
@@ -474,8 +492,8 @@ def wrong_margin(file, margin):
 
 
 def wrong_terms(file):
-    """F6 of what version 2 has at its head"""
-    if not is_2(file):
+    """F6 of what a plan has at its head"""
+    if not is_planned(file):
         return None
     if file["cards"] < file["records"]:
         return f"It says {plural(file['cards'], 'card')} for {plural(file['records'], 'record')}"
@@ -483,22 +501,25 @@ def wrong_terms(file):
         return f"It says {plural(file['cards'], 'card')}"
     most = {"gamma": most_of("GREATEST_GAMMA"), "limit": most_of("GREATEST_LIMIT")}
     name = next((name for name in most if not 1 <= file[name] <= most[name]), None)
-    return name and f"Its {name} is {file[name]}, and 1 to {most[name]} is looked for"
+    return name and f"Its {name} is {file[name]}; it has to be 1 to {most[name]}"
 
 
 def wrong_draws(file, one):
-    """F2 and F6 of an assertion of version 2: what its draws are."""
-    if not is_2(file) or not isinstance(one, dict) or one.get("draws") is None:
+    """F2 and F6 of an assertion with draws: what these are."""
+    if not is_planned(file) or not isinstance(one, dict) or one.get("draws") is None:
         return None
     if not is_counted(one["draws"]):
-        return f"Its draws are {shown(json.dumps(one['draws']), 70)}, and null or 1 to {most_of('MOST_DRAWS')}, in digits alone, is looked for"
+        return f"Its draws are {shown(json.dumps(one['draws']), 70)}; they have to be null or 1 to {most_of('MOST_DRAWS')}, in digits alone"
     return None if 1 <= one["draws"] <= most_of("MOST_DRAWS") else f"Its draws are {one['draws']}"
 
 
 def wrong_part(file, one):
     """F2 of an assertion"""
     is_nen = isinstance(one, dict) and one.get("kind") == "NEN"
-    return wrong_member(one, OF_ASSERTION + ("rest",) * is_nen + ("draws",) * is_2(file)) or wrong_draws(file, one)
+    told = wrong_member(one, OF_ASSERTION + ("rest",) * is_nen + ("draws",) * is_planned(file)) or wrong_draws(file, one)
+    if told is None and is_cover(file) and not is_planned(file) and "draws" in one:
+        return "It has draws, and the file has no cards, gamma and limit for them"
+    return told
 
 
 def wrong_name(file, one):
@@ -518,10 +539,50 @@ OF_ONE = {
 }
 
 
-def wrong_candidate(file, named):
+def wrong_candidate(file, named, had="the file has"):
     ids = file["candidates"]
     wrong = next((name for name in named if name not in ids), None)
-    return None if wrong is None else is_none("candidate", str(wrong), ids, "the file has")
+    return None if wrong is None else is_none("candidate", str(wrong), ids, had)
+
+
+# ---- claims files
+
+CLAIMS_MEMBERS = ("assertions", "candidates", "contest", "winner")
+OF_CLAIM = ("kind", "loser", "winner")
+
+
+def claims(data, rule, at, contest, ids):
+    """C2 to C5: what is wrong with the file's own members, or with one assertion, for this contest of these candidates."""
+    file = json_members(data)
+    if at == 0:
+        return [part for part in [wrong_claims(rule, file, contest, ids)] if part]
+    one = file["assertions"][at - 1]
+    told = wrong_claim(rule, one, ids)
+    return [part for part in (told, f"Assertion {at}: {shown(json.dumps(one, separators=(',', ':')).encode().decode('latin-1'))}") if part]
+
+
+def wrong_claims(rule, file, contest, ids):
+    """C2 to C4 at 0"""
+    if rule == "C2":
+        return wrong_member(file, CLAIMS_MEMBERS)
+    if rule == "C3":
+        return f"It is about {quoted(file['contest'])}, and the ballots are about {quoted(contest)}"
+    names = file["candidates"]
+    lacks = [name for name in ids if name not in names]
+    told = wrong_candidate({"candidates": ids}, [*names, file["winner"]], "the contest has")
+    return told or (f"{quoted(twice(names))} is repeated among the candidates" if twice(names) else f"The candidates lack {listed(lacks)}")
+
+
+def wrong_claim(rule, one, ids):
+    """C2, C4 and C5 of an assertion"""
+    is_nen = isinstance(one, dict) and one.get("kind") == "NEN"
+    if rule == "C2":
+        return wrong_member(one, OF_CLAIM + ("rest",) * is_nen)
+    rest = one["rest"] if is_nen else []
+    if rule == "C5":
+        return wrong_order(rest, [one["winner"], one["loser"]], "rest")
+    told = wrong_candidate({"candidates": ids}, [one["winner"], one["loser"], *rest], "the contest has")
+    return told or f"{quoted(one['winner'])} is its winner and its loser"
 
 
 def too_few_cards(data, manifest):
@@ -534,7 +595,7 @@ def no_session(data):
     members = json_members(data)
     if not members:
         return no_json(data, "a session")
-    if "rounds" not in members and "order" in members:
+    if "rounds" not in members and "candidates" in members:
         return ["It is an assertion file"]
     told = missing(members, OF_SESSION)
     return [told] if told else []
@@ -553,8 +614,8 @@ NO_ASSERTIONS = hashlib.sha256(b"").hexdigest()
 def other_audit(command):
     """S2, where a session of plurality is given to audit, or the other way round."""
     if command == "plurality":
-        return ["The session was opened with an assertion file; audit goes on with it"]
-    return ["The session is one of plurality, which has no assertion file; plurality goes on with it"]
+        return ["The session was opened with an assertion file; audit continues it"]
+    return ["The session is one of plurality, which has no assertion file; plurality continues it"]
 
 
 # ---- files that can't be read

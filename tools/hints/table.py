@@ -4,7 +4,7 @@ import re
 
 DOCS = os.path.join(os.path.dirname(os.path.dirname(os.path.dirname(os.path.abspath(__file__)))), "docs")
 # What the program says, and none of the tools beside it: a line of theirs begins with their name.
-KEYS = re.compile(r"`(?:raire: (?:<[a-z]+>: )?)?([BFMSV][0-9]+|bad words|no such file|too long|read fault)\b")
+KEYS = re.compile(r"`(?:raire: (?:<[a-z]+>: )?)?([BCFMSV][0-9]+|bad words|no such file|too long|read fault)\b")
 OF_A_SESSION = ", of a session"  # a row about a call that has one
 OF_CONTESTS = ", of all contests"  # a row about `contests`
 

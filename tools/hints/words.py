@@ -20,6 +20,8 @@ class Option(NamedTuple):
     high: int
     stands_with: str  # the option without which this one is none, or nothing
     in_place_of: str  # the option beside which it is none, or nothing
+    words: tuple = ()  # the words that it takes in place of a number
+    is_flag: bool = False  # it has no value
 
 
 class Form(NamedTuple):
@@ -59,15 +61,21 @@ def tools():
 
 
 def options_of(head, text):
-    for may_be, name in re.findall(r"(\[|\| )?--(\w+) [A-Z]+", head):
-        told = re.search(rf"^  --{name} .*\n(?: {{8,}}.*\n)*", text, re.MULTILINE)
-        span = re.search("([0-9]+) to ([0-9]+)", told[0] if told else "")
+    for may_be, name, value in re.findall(r"(\[|\| )?--(\w+)((?: [A-Z]+(?:\|[a-z]+)*)?)", head):
+        found = re.search(rf"^  --{name} .*\n(?: {{8,}}.*\n)*", text, re.MULTILINE)
+        told = found[0] if found else ""
+        span = re.search("([0-9]+) to ([0-9]+)", told)
         low, high = map(int, span.groups()) if span else (1, 64)
-        others = [re.search(rf"{words} --(\w+)", told[0] if told else "") for words in ("only with", "in place of")]
-        yield name, Option(not may_be, low, high, *(other[1] if other else "" for other in others))
+        wider = re.search(r"with --(\w+) to ([0-9]+)", told)
+        if wider and f"--{wider[1]} " in head:
+            high = int(wider[2])
+        others = [re.search(rf"{words} --(\w+)", told) for words in ("only with", "in place of")]
+        yield name, Option(not may_be, low, high, *(other[1] if other else "" for other in others), tuple(value.split("|")[1:]), not value)
 
 
 def is_value(name, option, text):
+    if text in option.words:
+        return True
     if name == "contest":
         return is_id(text)
     if name == "seed":
@@ -87,14 +95,31 @@ def call_of(words):
             return call_by(form, words[0], words[1:])
         except Wrong as told:
             wrong.append(told)
+    for flag, found in flags(commands[words[0]]):
+        if is_line(found, words[0], [*words[1:], f"--{flag}"]):
+            raise Wrong(f"{wrong[0]}; a line with --{flag} may have it")
     raise wrong[0]
 
 
+def flags(forms_of_command):
+    """The options without a value, each with the form that has it."""
+    return [(name, form) for form in forms_of_command for name, option in form.options.items() if option.is_flag]
+
+
+def is_line(form, command, words):
+    try:
+        return bool(call_by(form, command, words))
+    except Wrong:
+        return False
+
+
 def likeness(form, words):
-    """How much words are like a line of this form: how many of its options they name, then how near they come to its number of files."""
+    """How much words are like a line of this form: whether they have its flag, how many of its options they name, then how near they come to its
+    number of files."""
     named = [word[2:].partition("=") for word in words if word.startswith("--")]
     files = sum(not word.startswith("-") for word in words) - sum(not equals for _, equals, _ in named)
-    return sum(name in form.options for name, _, _ in named), -abs(files - len(form.files))
+    flagged = any(name in form.options and form.options[name].is_flag for name, _, _ in named)
+    return flagged, sum(name in form.options for name, _, _ in named), -abs(files - len(form.files))
 
 
 def call_by(form, command, words):
@@ -108,18 +133,18 @@ def call_by(form, command, words):
         elif word.startswith("-"):
             name, text = option_in(word, rest, command, form)
             if name in options:
-                raise Wrong(f"--{name} stands twice")
+                raise Wrong(f"--{name} is given twice")
             options[name] = text
         else:
             files.append(word)
     judge_files(files, command, form, options)
     for name, option in form.options.items():
         if option.has_to_be_given and name not in options:
-            raise Wrong(f"{command} wants --{name}")
+            raise Wrong(f"{command} needs --{name}")
         if name in options and option.stands_with not in ("", *options):
             raise Wrong(f"{command} takes --{name} only together with --{option.stands_with}")
         if name in options and option.in_place_of in options:
-            raise Wrong(f"--{name} stands in place of --{option.in_place_of}, and both are given")
+            raise Wrong(f"--{name} takes the place of --{option.in_place_of}, and both are given")
     return Call(command, dict(zip(form.files, files)), options)
 
 
@@ -131,20 +156,29 @@ def option_in(word, rest, command, form):
     if word == "-":
         raise Wrong('"-" is no file; standard input is the file /dev/stdin')
     if not word.startswith("--") or name not in form.options:
+        for flag in (other for other, option in form.options.items() if option.is_flag):
+            if word.startswith("--") and any(name in other.options for other in forms()[command]):
+                raise Wrong(f"--{name} is no option of a line with --{flag}")
         all_told = "it has " + (", ".join(f"--{name}" for name in form.options) or "none")
         bare = name.strip("-")
-        told = f'nearly right is "--{bare}"' if bare in form.options else meant(bare, form.options, all_told, "--")
+        every = list(dict.fromkeys([*form.options, *(other for one in forms()[command] for other in one.options)]))
+        told = f'nearly right is "--{bare}"' if bare in form.options else meant(bare, every, all_told, "--")
         file = f"; the file of this name is {quoted(f'./{word}')}" if os.path.exists(word) else ""
         raise Wrong(f"{quoted(word)} is no option of {command}; {told}{file}")
     option = form.options[name]
+    if option.is_flag:
+        if has_value:
+            raise Wrong(f"--{name} takes no value")
+        return name, ""
     if not has_value:
         if not rest or rest[0].startswith("-"):
-            raise Wrong(f"--{name} has no value" + (f"; {quoted(rest[0])} begins with -, so it is written behind --{name}=" if rest else ""))
+            raise Wrong(f"--{name} has no value" + (f"; {quoted(rest[0])} begins with -, so write it after --{name}=" if rest else ""))
         text = rest.pop(0)
     if not is_value(name, option, text):
         span = {"contest": "an id", "seed": f"{option.low} to {option.high} characters from space to ~",
                 "limit": f"{option.low} to {option.high} millionths, such as 50000 for 5 percent", "gamma": f"{option.low} to {option.high} thousandths"}
-        raise Wrong(f"{quoted(text)} is no value of --{name}, which is {span.get(name, f'{option.low} to {option.high}')}")
+        told = " or ".join([span.get(name, f"{option.low} to {option.high}"), *option.words])
+        raise Wrong(f"{quoted(text)} is no value of --{name}, which is {told}")
     return name, text
 
 
@@ -153,11 +187,11 @@ def judge_files(files, command, form, options):
         raise Wrong("a file has no name")
     if len(files) > len(form.files):
         more = files[len(form.files)]
-        quotes = '; a seed of several words wants quotes, as in --seed "2 6 1 4"' if "seed" in options else ""
-        quotes += "".join(f"; a name with blanks wants quotes: {quoted(name)}" for name in split_names(files)[:1])
+        quotes = '; a seed of several words needs quotes, as in --seed "2 6 1 4"' if "seed" in options else ""
+        quotes += "".join(f"; a name with blanks needs quotes: {quoted(name)}" for name in split_names(files)[:1])
         raise Wrong(f"{quoted(more)} is a word too many: {command} takes {told_files(form)}{quotes}")
     if len(files) < len(form.files):
-        few = f"{len(files)} of these stand{'s' * (len(files) == 1)}" if files else "none of these stands"
+        few = f"{len(files)} of these {'is' if len(files) == 1 else 'are'}" if files else "none of these is"
         raise Wrong(f"{command} takes {told_files(form)}, and {few} here")
 
 

@@ -28,20 +28,29 @@ def shown(reading, names):
     return between.join(names.get(c, c) for c in reading) or "nobody ranked"
 
 
-def names_of(given):
-    """What the candidates are called, of the contest that is meant."""
+def candidates_of(readings):
+    """The ids of all who are ranked or marked."""
+    for reading in readings:
+        if isinstance(reading, records.Marks):
+            yield from (c for _, c in reading)
+        elif reading != records.MISSING:
+            yield from reading
+
+
+def names_of(given, ids):
+    """What the candidates are called, of the contest that is meant. Those who are read have these ids."""
     if given.names is None:
         return {}
     try:
         found = called.Called(given.names, read(NAME, given.names))
+        contest = given.contest if given.contest is not None else next(iter(found.candidates), None)
+        if found.has_contests and given.contest is None and len(found.candidates) > 1:
+            raise Refusal(2, f"{NAME}: {given.names} has several contests; --contest says which is meant\n")
+        if not found.of(contest):
+            raise Refusal(2, f"{NAME}: {given.names} has no candidates of contest {contest}\n")
+        return found.of(contest, ids)
     except called.BadNames as bad:
         raise Refusal(2, f"{NAME}: {bad}\n") from None
-    contest = given.contest if given.contest is not None else next(iter(found.candidates), None)
-    if found.has_contests and given.contest is None and len(found.candidates) > 1:
-        raise Refusal(2, f"{NAME}: {given.names} has several contests; --contest says which is meant\n")
-    if not found.of(contest):
-        raise Refusal(2, f"{NAME}: {given.names} has no candidates of contest {contest}\n")
-    return found.of(contest)
 
 
 def differences(first, second, paths, names):
@@ -49,11 +58,19 @@ def differences(first, second, paths, names):
     for card, reading in first.items():
         if card not in second:
             yield f"{card}: only in {paths[0]}: {shown(reading, names)}"
-        elif reading != second[card] or type(reading) is not type(second[card]):
+        elif reading != second[card] or isinstance(reading, records.Marks) != isinstance(second[card], records.Marks):
             yield f"{card}: {shown(reading, names)} in {paths[0]}; {shown(second[card], names)} in {paths[1]}"
     for card, reading in second.items():
         if card not in first:
             yield f"{card}: only in {paths[1]}: {shown(reading, names)}"
+
+
+def see_kinds(readings, paths):
+    """One file of marks and one of rankings differ on each card, whatever was read: that is no work for people."""
+    kinds = [{type(reading) for reading in each.values()} - {str} for each in readings]
+    if kinds in ([{records.Marks}, {tuple}], [{tuple}, {records.Marks}]):
+        with_marks = paths[kinds.index({records.Marks})]
+        raise Refusal(2, f"{NAME}: {with_marks} has marks, and the other file has rankings\n")
 
 
 def answer(words):
@@ -66,9 +83,11 @@ def answer(words):
     paths = given.files
     see_output(NAME, filter(None, [*paths, given.names]))
     if all(map(os.path.exists, paths)) and os.path.samefile(*paths):
-        raise Refusal(1, f"{NAME}: {paths[0]} and {paths[1]} are one file; give the readings of two people\n")
+        raise Refusal(1, f"{NAME}: {paths[0]} and {paths[1]} are one file\n")
     first, second = map(reading_of, paths)
-    told = list(differences(first, second, paths, names_of(given)))
+    see_kinds([first, second], paths)
+    ids = dict.fromkeys(candidates_of([*first.values(), *second.values()])) if given.names is not None else ()
+    told = list(differences(first, second, paths, names_of(given, ids)))
     cards = len(set(first) | set(second))
     account = f"{cards - len(told)} of {cards} cards were read the same"
     if told:

@@ -3,6 +3,8 @@ import os
 import shutil
 import subprocess
 
+import share
+
 TOP = os.path.dirname(os.path.dirname(os.path.dirname(os.path.abspath(__file__))))
 MOST_FILE_BYTES = 67_108_864  # of a file that the program reads
 
@@ -29,7 +31,8 @@ def path_of_program(name):
 
 def build(name, own):
     """Where there is no program yet, ./raire tells how far it is, on standard error."""
-    built = subprocess.run([own, "--build"], stdin=subprocess.DEVNULL, stdout=subprocess.DEVNULL)
+    with share.away():
+        built = subprocess.run([own, "--build"], stdin=subprocess.DEVNULL, stdout=subprocess.DEVNULL)
     if built.returncode:
         raise Refusal(built.returncode, f"{name}: there is no program to ask\n")
 

@@ -2,6 +2,8 @@
 import csv
 import io
 
+from alike import folded, HOW
+
 HEADS = (["id", "name"], ["contest", "id", "name"])
 
 
@@ -10,10 +12,10 @@ class BadNames(Exception):
 
 
 class Called:
-    """The names of a file. A record contest,,name without a candidate says what the contest is called."""
+    """The names of a file, which don't look alike within a contest. A record contest,,name without a candidate says what the contest is called."""
 
     def __init__(self, path, data, must_have_head=False):
-        self.path, self.contests, self.candidates = path, {}, {}
+        self.path, self.contests, self.candidates, self.looks = path, {}, {}, {}
         rows = list(numbered(path, data))
         head = next((row for _, row in rows[:1] if row in HEADS), None)
         if must_have_head and head is None:
@@ -30,12 +32,28 @@ class Called:
         names = self.contests if is_of_contest else self.candidates.setdefault(of[0] if of else None, {})
         key = of[0] if is_of_contest else key
         if key in names:
-            raise BadNames(f"{self.path}: record {at} is about {key}, {'which' if is_of_contest else 'who'} stood before")
+            raise BadNames(f"{self.path}: record {at} is about {key}, {'which' if is_of_contest else 'who'} came before")
         names[key] = name
+        if not is_of_contest:
+            self.see_looks(at, of[0] if of else None, key, name)
 
-    def of(self, contest):
-        """What the candidates of a contest are called, by their ids."""
-        return self.candidates.get(contest, {}) if self.has_contests else self.candidates.get(None, {})
+    def see_looks(self, at, contest, key, name):
+        """No name looks like one before it."""
+        before, other = self.looks.setdefault((contest, folded(name)), (at, key))
+        if other != key:
+            pair = f"record {before} calls {other} {self.candidates[contest][other]}, and record {at} calls {key} {name}"
+            raise BadNames(f"{self.path}: {pair}; these names {HOW}: give each another one, such as {name} ({key})")
+
+    def of(self, contest, ids=()):
+        """What the candidates of a contest are called, by their ids. Those of `ids` who have no name are shown by the id, which may look like no name."""
+        key = contest if self.has_contests else None
+        names = self.candidates.get(key, {})
+        for c in ids:
+            _, other = self.looks.get((key, folded(c)), (None, c))
+            if c not in names and other != c:
+                told = f"{self.path} calls {other} {names[other]}, and has no name for {c}; both {HOW}"
+                raise BadNames(f"{told}: give each another name, such as {names[other]} ({other})")
+        return names
 
     def contest(self, contest):
         """A contest as people know it, with its id."""
@@ -57,7 +75,7 @@ class Nobody:
 
     has_contests = False
 
-    def of(self, contest):
+    def of(self, contest, ids=()):
         return {}
 
     def contest(self, contest):

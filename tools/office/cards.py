@@ -37,12 +37,12 @@ def words_of(words):
     if sum(getattr(given, form) for form in FORMS) > 1:
         parser.error("--page, --sheet and --entry are asked for one at a time")
     if given.entry != (given.ballots is not None or given.names is not None):
-        parser.error("--entry wants the candidates: --ballots or --names" if given.entry else "--ballots and --names are for --entry")
+        parser.error("--entry needs the candidates: --ballots or --names" if given.entry else "--ballots and --names are for --entry")
     for name in ("contest", "ranks", "marks"):
         if getattr(given, name) and not given.entry:
             parser.error(f"--{name} is for --entry")
     if given.ranks is not None and not (re.fullmatch("[0-9]{1,4}", given.ranks) and 1 <= int(given.ranks) <= MOST_RANKS):
-        parser.error(f"--ranks wants a number from 1 to {MOST_RANKS}")
+        parser.error(f"--ranks needs a number from 1 to {MOST_RANKS}")
     return given
 
 
@@ -77,7 +77,7 @@ def before(given):
         return 0
     draws, text = int(given.draws), "0" if given.after is None else given.after
     if not (text.isascii() and text.isdigit() and int(text) < draws):
-        raise told(f"--after wants fewer draws than --draws, which are {draws}")
+        raise told(f"--after needs fewer draws than --draws, which are {draws}")
     return int(text)
 
 
@@ -123,14 +123,14 @@ def places_of(given):
         if row[0] not in batches:
             raise broken(given.places, at, f"is about {row[0]}, and {given.manifest} has no such batch")
         if row[0] in places:
-            raise broken(given.places, at, f"is about {row[0]}, which stood before")
+            raise broken(given.places, at, f"is about {row[0]}, which came before")
         places[row[0]] = row[1]
     return places
 
 
 def place_of(places, batch, given):
     if places is not None and batch not in places:
-        raise Refusal(2, f"{NAME}: {given.places}: there is no place of {batch}, of which a card is drawn\n")
+        raise Refusal(2, f"{NAME}: {given.places}: there is no place of {batch}, of which a card is listed\n")
     return None if places is None else places[batch]
 
 
@@ -140,26 +140,30 @@ def broken(path, at, what):
 
 # ---- candidates
 
-def names_of(given, contest):
-    """The names of candidates by their ids, of a file with a record each, and what the contest is called; of several contests those of the one that is meant."""
+def names_of(given, contest, ids):
+    """The names of candidates by their ids, of a file with a record each, and what the contest is called; of several contests those of the one that is meant.
+
+    `ids` are those of the ballot file's candidates.
+    """
     if given.names is None:
         return {}, contest
     try:
         found = called.Called(given.names, read(NAME, given.names))
+        if found.has_contests and contest is None:
+            if len(found.candidates) > 1:
+                raise Refusal(2, f"{NAME}: {given.names} has several contests; --contest says which is meant\n")
+            contest = next(iter(found.candidates), None)
+        return found.of(contest, ids), contest and found.contest(contest)
     except called.BadNames as bad:
         raise Refusal(2, f"{NAME}: {bad}\n") from None
-    if found.has_contests and contest is None:
-        if len(found.candidates) > 1:
-            raise Refusal(2, f"{NAME}: {given.names} has several contests; --contest says which is meant\n")
-        contest = next(iter(found.candidates), None)
-    return found.of(contest), contest and found.contest(contest)
 
 
 def candidates_of(given):
     """The contest as it is called, where it is told, and the ids of its candidates with what they are called."""
     contest = given.contest if given.ballots is None else contest_of(given)
-    names, known_as = names_of(given, contest)
-    ids = names if given.ballots is None else records.contests_of(read(NAME, given.ballots))[contest]
+    ids = None if given.ballots is None else records.contests_of(read(NAME, given.ballots))[contest]
+    names, known_as = names_of(given, contest, ids or ())
+    ids = names if ids is None else ids
     if not ids:
         raise Refusal(2, f"{NAME}: {given.names} has no candidates{'' if contest is None else f' of contest {contest}'}\n")
     shown = [{"id": each, "name": names.get(each, each)} for each in ids]
@@ -230,21 +234,21 @@ def entry(given, cards):
     if not cards:
         raise told(f"there is no card to read: {plural(before(given), 'draw')} took all of them")
     if len(cards) > MOST_ON_A_PAGE:
-        raise told(f"{plural(len(cards), 'card')} are more than a page has, which is {MOST_ON_A_PAGE:,}; make one for each batch: --batch")
+        raise told(f"{plural(len(cards), 'card')} are more than a page has, which is {MOST_ON_A_PAGE:,}")
     contest, candidates = candidates_of(given)
     ranks = len(candidates) if given.ranks is None else int(given.ranks)
     data = {
         "contest": contest, "candidates": candidates, "cards": [card._asdict() for card in cards], "ranks": ranks, "has_marks": given.marks,
-        "part": re.sub("[^A-Za-z0-9.-]", "_", given.batch or ""),
+        "part": re.sub("[^A-Za-z0-9.-]", "_", given.batch or "") or f"after_{before(given)}" * bool(before(given)),
     }
-    key = hashlib.sha256(json.dumps(data, sort_keys=True).encode()).hexdigest()
+    key = hashlib.sha256(json.dumps([data, given.seed, before(given)], sort_keys=True).encode()).hexdigest()  # each round is kept apart
     return filled("entry.html.j2", data={**data, "key": key}, called=contest, contest=contest, count=len(cards))
 
 
 def account(given, cards, again):
     """What is told beside the answer."""
-    note = term_notes.seed_note(given.seed or "")
-    about_seed = f"{NAME}: {note}\n" if note else ""
+    notes = [] if given.all else [term_notes.seed_note(given.seed), term_notes.short_note(given.seed)]
+    about_seed = "".join(f"{NAME}: {note}\n" for note in notes if note)
     if not before(given):
         return about_seed
     lines = [f"{plural(len(cards), 'card')} of draws {before(given) + 1} to {int(given.draws)} {was(cards)} not drawn before"]

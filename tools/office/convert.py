@@ -8,19 +8,21 @@ import sys
 import convert_clear_ballot
 import convert_dominion
 import convert_dominion_csv
+import convert_files
 import convert_hart
 import convert_nist
 import convert_preflib
 import convert_seen
 import convert_sheet
-from ask import Refusal
+import share
+from ask import MOST_FILE_BYTES, Refusal
 from convert_account import account
 from convert_book import Book
 from convert_export import chosen, NAME, PAIRS, PLURALITY, RANKED, refused, told
 from convert_rules import OF_RANKS, OF_SOME, Rules, RULES
 from limits import MOST_LISTED
 from plain_audit import number_in
-from words import see_output, Words
+from words import ended, see_output, Words
 
 # Of each form what reads it, the options that it has beside those of all forms, and the rules of OF_SOME that have a meaning for it.
 FORMATS = {
@@ -40,6 +42,7 @@ SOME = ["marks", "counts", "id", "sheet", "candidates", "title", "batch", "ballo
 VALUES = ["id", "sheet", "candidates", "title", "batch", "ballots", "account", "names"]
 AS = (RANKED, PLURALITY, PAIRS)
 MOST_CARDS = 10_000_000
+ACCOUNT = f"./raire {NAME} "  # with which each account begins
 
 
 def words_of(words):
@@ -62,7 +65,7 @@ def words_of(words):
     see_rules(parser, given)
     for name, low, high in (("ranks", 1, MOST_LISTED), ("seats", 1, MOST_LISTED), ("cards", 1, MOST_CARDS)):
         if getattr(given, name) is not None:
-            setattr(given, name, number_in(getattr(given, name), low, high) or parser.error(f"--{name} wants a number from {low} to {high}"))
+            setattr(given, name, number_in(getattr(given, name), low, high) or parser.error(f"--{name} needs a number from {low} to {high}"))
     for rule, meanings in RULES.items():
         setattr(given, rule, getattr(given, rule) or next(iter(meanings)))
     given.id = given.id and [part.strip() for part in given.id.split(",")]
@@ -77,11 +80,11 @@ def see_rules(parser, given):
     if given.seats is not None and given.made != PAIRS:
         parser.error("--seats is for --as pairs")
     if given.format == "marks" and given.made == PAIRS and given.seats is None:
-        parser.error("marks of pairs want --seats: how many the contest elects")
+        parser.error("marks of pairs need --seats: how many the contest elects")
     if given.marks == "made" and given.counts is not None:
         parser.error("--counts has no meaning with --marks made, which takes marks whatever the export counts")
     if given.format in ("seen", "marks") and given.ballots is None:
-        parser.error(f"{given.format} wants the candidates: --ballots")
+        parser.error(f"{given.format} needs the candidates: --ballots")
 
 
 def rules_of(given):
@@ -93,6 +96,7 @@ def rules_of(given):
 def converted(given):
     """The export, the book of all records, and the account of how they were read. It may be Refused."""
     reader, path = FORMATS[given.format][0], " ".join(given.files)
+    convert_files.see_there(given.files)
     export = reader(given.files, given)
     contests = chosen(export.contests.values(), given.contest, given.made, path)
     export.see_chosen(contests)
@@ -107,9 +111,8 @@ def converted(given):
 
 def see_all_read(given, book, path):
     """Where the office says how many cards there are, so many have to be read."""
-    read = sum(book.read.values())
-    if given.cards not in (None, read):
-        raise refused(path, f"{read} cards were read, and --cards says {given.cards}: see whether a file is missing, or given twice")
+    if given.cards not in (None, book.cards):
+        raise refused(path, f"{book.cards} cards were read, and --cards says {given.cards}: see whether a file is missing, or given twice")
 
 
 def call_of(given):
@@ -127,20 +130,33 @@ def see_beside(given):
     read = [path for path in [*given.files, given.candidates, given.ballots] if path is not None and os.path.exists(path)]
     if len({os.path.realpath(path) for path in written}) < len(written):
         raise told("--account and --names are one file")
-    for path in written:
-        if os.path.exists(path) and any(os.path.samefile(path, each) for each in read):
-            raise told(f"{path} would be written over")
+    for path in filter(os.path.exists, written):
+        if any(os.path.samefile(path, each) for each in read):
+            raise told(f"{path} would be written over by --account or --names")
+        if sys.stdout is not None and os.path.samestat(os.stat(path), os.fstat(1)):
+            raise told(f"{path} is both standard output and the file of --account or --names")
+
+
+def see_kept(path, text, begins):
+    """Nothing that somebody has written is lost: a file that is there is one that this tool makes anew, or has the same text."""
+    if path is None or not os.path.exists(path):
+        return
+    with open(path, "rb") as file:
+        data = file.read(MOST_FILE_BYTES)
+    if data and data != text.encode(errors="surrogateescape") and not (begins and data.startswith(begins.encode())):
+        raise told(f"{path} is there already, and {'is no account' if begins else 'says something else'}; it would be lost")
 
 
 @contextlib.contextmanager
-def beside(path, text):
+def beside(path, text, begins=""):
     """A file that gets its name once all is written, so that a call that fails leaves none."""
     if path is None:
         yield
         return
-    part = f"{path}.part"
+    part = f"{path}.{os.getpid()}.part"
     try:
-        with open(part, "w", newline="") as file:
+        see_kept(path, text, begins)
+        with open(part, "x", newline="") as file:
             file.write(text)
         yield
         os.replace(part, path)
@@ -166,8 +182,10 @@ def answer(words):
     given = words_of(words)
     see_output(NAME, filter(None, [*given.files, given.ballots, given.candidates]))
     see_beside(given)
-    export, book, told_of_it = converted(given)
-    with text_of(given, export, book) as text, beside(given.account, told_of_it), beside(given.names, book.names()):
+    with share.shown([NAME, *words]):
+        export, book, told_of_it = converted(given)
+        made = text_of(given, export, book)
+    with made as text, beside(given.account, told_of_it, ACCOUNT), beside(given.names, book.names()):
         put(text)
     sys.stderr.write(told_of_it)
 
@@ -184,6 +202,5 @@ def main(words):
     try:
         answer(words)
     except Refusal as refusal:
-        sys.stderr.write(refusal.text)
-        return refusal.status
+        return ended(NAME, refusal)
     return 0

@@ -1,27 +1,30 @@
 """The account of a conversion: what was read and written, and what was done with each kind of mark."""
+from convert_book import MOST_FILES
 from convert_export import PLURALITY, RANKED
-from convert_rules import RULES
+from convert_rules import CARDS_COUNTED, RULES
 from limits import FEWEST_CANDIDATES, MOST_CANDIDATES
 
 # What is counted of each contest, and the rule that says what was done with it.
 FOUND = {
     "overvoted ranks": "overvotes", "skipped ranks": "skips", "ended by skipped ranks": None, "repeated candidates": "repeats",
-    "write-ins": "write_ins", "ranks behind the end": None, "marks that aren't taken": "marks",
+    "write-ins": "write_ins", "ranks after the end": None, "marks that aren't taken": "marks",
 }
 FOUND_UNRANKED = ("overvoted contests", "write-ins", "marks that aren't taken")
 OVERVOTED = "more marks than seats, so nobody has the vote"
 
 
-def meaning(rules, rule):
+def meaning(rules, rule, export=None):
     """What the word says that was given for a rule."""
-    return RULES[rule][getattr(rules, rule)]
+    said = CARDS_COUNTED if rule == "counts" and getattr(export, "numbers_cards", False) else RULES[rule]
+    return said[getattr(rules, rule)]
 
 
 def account(call, export, book, asked, rules):
     """The text of it. `rules` are those that have a meaning for this form."""
-    lines = [call, *(f"rule: --{rule.replace('_', '-')} {getattr(book.rules, rule)}: {meaning(book.rules, rule)}" for rule in rules)]
+    lines = [call, *(f"rule: --{rule.replace('_', '-')} {getattr(book.rules, rule)}: {meaning(book.rules, rule, export)}" for rule in rules)]
     lines += read_lines(book)
-    lines.append(f"written: {book.written()} records of {len(book.stood)} cards, of {len(book.names_of_contests())} contest{'s' * (len(book.names_of_contests()) != 1)}")
+    contests = len(book.names_of_contests())
+    lines.append(f"written: {book.written()} records of {len(book.stood)} cards, of {contests} contest{'s' * (contests != 1)}")
     lines.append(f"ids of cards: {export.made_of}, as in {book.first_id()}")
     if book.unplaced:
         why = "aren't a batch, an underscore and a number, so no manifest has these cards: open would refuse them (M7)"
@@ -33,13 +36,10 @@ def account(call, export, book, asked, rules):
     return "".join(f"{line}\n" for line in lines)
 
 
-MOST_FILES = 20
-
-
 def read_lines(book):
     """The cards of each file; of many files their number and that of all cards."""
-    if len(book.read) > MOST_FILES:
-        yield f"read: {len(book.read)} files: {sum(book.read.values())} cards"
+    if book.files > MOST_FILES:
+        yield f"read: {book.files} files: {book.cards} cards"
     else:
         yield from (f"read: {path}: {number} cards" for path, number in book.read.items())
 

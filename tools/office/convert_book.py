@@ -5,12 +5,14 @@ import itertools
 import tempfile
 
 import convert_ids
+from alike import told_apart
 from convert_export import PAIRS, PLURALITY, RANKED, refused, WRITE_IN
 from convert_rules import choice_of, ranking_of
 from limits import MOST_CONTESTS, MOST_FILE_BYTES, MOST_LISTED, MOST_RECORDS
 from records import text_of
 
 WRITE_INS = "Write-in"
+MOST_FILES = 20  # of which the account tells the cards one by one
 FEWER = "convert fewer contests at once: --contest"
 RANKS = "--ranks says how many ranks a ballot has"
 
@@ -26,12 +28,13 @@ class Book:
         self.ranked = [set() for _ in contests]
         self.votes = [collections.Counter() for _ in contests]  # of each candidate, where candidates aren't ranked
         self.highest = [(0, None)] * len(contests)  # of contests whose candidates are found on the way
-        self.read, self.stood, self.records, self.unplaced = collections.Counter(), set(), 0, 0
+        self.files, self.cards, self.read, self.last = 0, 0, collections.Counter(), None
+        self.stood, self.records, self.unplaced = set(), 0, 0
         self.without, self.pairs = list(dict.fromkeys(without)), {}
         self.waiting = tempfile.TemporaryFile()
 
     def add(self, card):
-        self.read[str(card.place.path)] += 1
+        self.count(str(card.place.path))
         if not card.votes:
             return
         convert_ids.see_card(card)
@@ -42,6 +45,13 @@ class Book:
         self.unplaced += not convert_ids.is_in_a_batch(card.id)
         for vote in card.votes:
             self.add_vote(card, vote)
+
+    def count(self, path):
+        """Counts a card. Files come one after the other, and there may be one for each card: of the first ones the cards are kept file by file."""
+        self.files += path != self.last
+        self.last, self.cards = path, self.cards + 1
+        if self.files <= MOST_FILES:
+            self.read[path] += 1
 
     def add_vote(self, card, vote):
         place = self.places[vote.contest.key]
@@ -154,7 +164,8 @@ class Book:
         if len(pairs) > MOST_LISTED:
             raise refused(path, f"contest {contest} has {len(pairs)} candidates, and a .raire file has at most {MOST_LISTED}")
         ids = convert_ids.ids_of([key for _, key, _ in pairs], "candidate")
-        return {place: (each, name) for (place, _, name), each in zip(pairs, ids)}
+        names = told_apart([(each, name) for each, (_, _, name) in zip(ids, pairs)])
+        return {place: both for (place, _, _), both in zip(pairs, zip(ids, names))}
 
     @staticmethod
     def is_shown(candidate, is_ranked):

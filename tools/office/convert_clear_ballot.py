@@ -26,7 +26,8 @@ class Export(convert_columns.Export):
             if lower[column].startswith("choice_"):
                 found = CHOICE.fullmatch(name)
                 if not found:
-                    raise refused(place, f"column {column + 1}: {name} isn't Choice_, contest, Vote For and a number, choice and party with colons between (Clear Ballot's form)")
+                    form = "Choice_, contest, Vote For and a number, choice and party with colons between (Clear Ballot's form)"
+                    raise refused(place, f"column {column + 1}: {name} isn't {form}")
                 self.add_choice(place, column, found[1].strip(), found[3].strip(), None, why_not=UNKNOWN, seats=int(found[2]))
                 self.contests[found[1].strip()].says_kind = False
         if not self.contests:
@@ -52,5 +53,5 @@ class Export(convert_columns.Export):
         if column is not None and self.compares:
             number, expected = convert_columns.number_in(row[column], place.at("RowNumber")), self.numbers.get(source)
             if expected is not None and number != expected:
-                raise refused(place, f"RowNumber is {number} after {expected - 1}: rows are missing, or stand twice; --counts ignore takes what is there")
+                raise refused(place, f"RowNumber is {number} after {expected - 1}: rows are missing or duplicated; --counts ignore takes what is there")
             self.numbers[source] = number + 1

@@ -2,6 +2,7 @@
 import csv
 
 import convert_files
+from alike import HOW
 from convert_export import Candidate, Card, Contest, Place, refused, Vote
 from convert_sheet import WORDS
 
@@ -26,6 +27,8 @@ def bare(cell):
 
 class Export:
     """The first file's head tells contests and choices; further files have the same head."""
+
+    numbers_cards = True  # --counts is about the numbers of the cards
 
     def __init__(self, paths, options):
         self.paths, self.options, self.notes = paths, options, {}
@@ -57,7 +60,11 @@ class Export:
         if contest is None:
             contest = self.contests[title] = Contest(title, title, **of_contest)
             self.columns[title] = []
-        number = contest.add(Candidate(name, name, WORDS.get(name.lower()) == "write-in"))
+        is_write_in = WORDS.get(name.lower()) == "write-in"
+        if contest.alike(name) is not None and not is_write_in:
+            both = f"{name} and {contest.alike(name)} of {title} {HOW}"
+            raise refused(place, f"column {column + 1}: {both}; write one of them for both in the head, or add what tells them apart")
+        number = contest.add(Candidate(name, name, is_write_in))
         if (number, rank) in [each[1:] for each in self.columns[title]] and not contest.candidates[number].is_write_in:
             raise refused(place, f"column {column + 1}: a second column is {name}{'' if rank is None else f', rank {rank}'} of {title}")
         self.columns[title].append((column, number, rank))

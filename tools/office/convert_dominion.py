@@ -13,6 +13,10 @@ WRITE_IN = "WriteIn"
 BY_OTHER_WORDS = "--marks made takes the marks that aren't counted too, and --counts ignore doesn't look at these numbers"
 
 
+def is_of_export(name):
+    return EXPORT.fullmatch(name) is not None or name.lower() in LISTS
+
+
 class Export:
     made_of = "TabulatorId_BatchId_RecordId of the session"
 
@@ -21,7 +25,7 @@ class Export:
         self.compares = options.counts == "compare" and options.marks == "counted"
         self.notes = {}
         self.exports, lists = [], {}
-        for source in convert_files.sources_of(paths):
+        for source in convert_files.sources_of(paths, is_of_export, "file of an export: CvrExport.json, ContestManifest.json, CandidateManifest.json"):
             name = source.name.lower()
             if EXPORT.fullmatch(source.name):
                 self.exports.append(source)
@@ -60,7 +64,8 @@ class Export:
         missing = [f"CvrExport_{number}.json" for number in range(min(1, *parts), max(parts)) if number not in parts]
         if missing:
             more = f" and {len(missing) - 10} more" if len(missing) > 10 else ""
-            raise refused(" ".join(self.paths), f"there is no {', no '.join(missing[:10])}{more}, and {parts[max(parts)].name} is there: a part of the export is missing")
+            there = f"{parts[max(parts)].name} is there: a part of the export is missing"
+            raise refused(" ".join(self.paths), f"there is no {', no '.join(missing[:10])}{more}, and {there}")
 
     def read_contests(self, source):
         for number, each in enumerate(convert_files.items(source, "List.item"), 1):
@@ -104,7 +109,7 @@ class Export:
                 continue
             here = place.at(f"contest {contest.key}")
             if contest.key in stood:
-                raise refused(here, "stands twice on the card")
+                raise refused(here, "is on the card twice")
             stood.add(contest.key)
             votes.append(self.vote(vote, contest, here))
         return Card(place, self.id_of(session, place) if votes else None, votes)

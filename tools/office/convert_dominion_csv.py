@@ -38,8 +38,6 @@ class Export(convert_columns.Export):
         for column, (title, choice) in enumerate(zip(titles, choices)):
             if title:
                 self.read_column(place, column, title, choice)
-        if not self.contests:
-            raise refused(place, "the second names no contest")
 
     def read_column(self, place, column, title, choice):
         found = TITLE.fullmatch(title)
@@ -75,7 +73,7 @@ class Export(convert_columns.Export):
         for source, (least, most, count) in sorted(self.numbers.items(), key=lambda pair: pair[1]):
             if least not in (1, upto + 1) or most - least + 1 != count:
                 told = f"CvrNumber goes from {least} to {most} on {count} cards" + (f", and the cards before end with {upto}" if upto else "")
-                raise refused(source, f"{told}: cards are missing, or stand twice; --counts ignore takes what is there")
+                raise refused(source, f"{told}: cards are missing or duplicated; --counts ignore takes what is there")
             upto = most
 
     def id_of(self, row, place):

@@ -1,6 +1,7 @@
 """What every form of export comes to: contests, cards with marks by rank, and the place of whatever can't be read."""
 import collections
 
+from alike import folded
 from ask import Refusal
 
 NAME = "convert"
@@ -27,11 +28,8 @@ class Place(collections.namedtuple("Place", "path kind number part", defaults=(N
         return self._replace(part=f"{self.part}, {part}" if self.part else part)
 
 
-WHAT_TO_DO = "What to do: docs/faults.md"
-
-
 def refused(place, text):
-    return Refusal(2, f"{NAME}: {one_line(f'{place}: {text}')}. {WHAT_TO_DO}\n")
+    return Refusal(2, f"{NAME}: {one_line(f'{place}: {text}')}\n")
 
 
 def told(text):
@@ -54,7 +52,7 @@ class Contest:
         self.says_kind = True  # whether the export says that it is ranked, or that it isn't
         self.is_open = False  # candidates are found on the way
         self.keeps_order = False  # the candidates are those of a ballot file, in its order
-        self.candidates, self.numbers = [], {}
+        self.candidates, self.numbers, self.looks = [], {}, {}
         for candidate in candidates:
             self.add(candidate)
 
@@ -65,7 +63,13 @@ class Contest:
         number = self.numbers.setdefault(candidate.key, len(self.candidates))
         if number == len(self.candidates):
             self.candidates.append(candidate)
+            self.looks.setdefault(folded(candidate.name), candidate.name)
         return number
+
+    def alike(self, name):
+        """The name of a candidate who looks like this one and is called otherwise, or None."""
+        found = self.looks.get(folded(name), name)
+        return None if found == name else found
 
     def mark(self, number, index=None):
         """The mark for a candidate, or for the write-in that stands in this field."""

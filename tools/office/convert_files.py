@@ -2,11 +2,13 @@
 import codecs
 import contextlib
 import errno
+import functools
 import io
 import os
 import zipfile
 import zlib
 
+import share
 from ask import Refusal
 from convert_export import NAME, refused
 
@@ -33,24 +35,40 @@ def first_line(fault):
 
 
 class Source:
-    """A file, or a file in a zip."""
+    """A file, or a file in a zip. Some exports have one for each card, so it holds little."""
+
+    __slots__ = ("archive", "inner", "outer")
 
     def __init__(self, path, archive=None, inner=None):
         self.archive, self.inner, self.outer = archive, inner, path
-        self.path = path if archive is None else f"{path}/{inner}"
-        self.name = os.path.basename(inner or path)
+
+    @property
+    def path(self):
+        return self.outer if self.archive is None else f"{self.outer}/{self.inner}"
+
+    @property
+    def name(self):
+        return os.path.basename(self.inner or self.outer)
 
     def __str__(self):
         return self.path
+
+    def is_named(self, path):
+        """Whether it is the file of this path itself, and none in a folder or a zip."""
+        return self.archive is None and self.outer == path
 
     @contextlib.contextmanager
     def opened(self):
         """The bytes behind a byte order mark, as a stream."""
         with faults(self.path), (self.archive.open(self.inner) if self.archive else open(self.outer, "rb")) as raw:
-            stream = io.BufferedReader(raw, 1 << 16)
+            stream = io.BufferedReader(share.counted(raw, self.size(), self.path), 1 << 16)
             if stream.peek(3).startswith(codecs.BOM_UTF8):
                 stream.read(3)
             yield stream
+
+    def size(self):
+        """How many bytes it has, as far as the disk or the zip says so."""
+        return self.archive.getinfo(self.inner).file_size if self.archive else os.stat(self.outer).st_size
 
     def read(self):
         with self.opened() as stream:
@@ -69,22 +87,53 @@ class Source:
                     raise refused(f"{self.path}: line {number}", "isn't UTF-8") from None
 
 
-def sources_of(paths, is_deep=False):
-    """The files that are named, those of a folder, those of a zip; by name in each. `is_deep` takes folders in folders too."""
-    found = []
+@functools.lru_cache(maxsize=1)
+def archive_of(path):
+    """A zip. Its list of files may be long, so it is kept for the next time that the zip is read."""
+    return zipfile.ZipFile(path)
+
+
+def see_there(paths):
+    """Each path that is named is there, so that none is passed over."""
     for path in paths:
-        if os.path.isdir(path):
+        with faults(path):
+            os.stat(path)
+
+
+def sources_of(paths, takes=None, wanted="file"):
+    """The files that are named, those of a folder, those of a zip; by name in each."""
+    return list(walked(paths, takes, wanted))
+
+
+def walked(paths, takes=None, wanted="file", is_deep=False):
+    """The same, one after the other. A folder or a zip that is named has to have a file whose name the form `takes`."""
+    for path in paths:
+        found = 0
+        for source in inside(path, is_deep):
+            if takes is None or source.is_named(path) or takes(source.name):
+                found += 1
+                yield source
+        if not found:
+            raise refused(path, f"has no {wanted}")
+
+
+def inside(path, is_deep):
+    """All files of a path: of folders with a file for each card only one folder's names are held. `is_deep` takes folders in folders too."""
+    if os.path.isdir(path):
+        with faults(path):
             names = sorted(os.listdir(path))
-            folders = [os.path.join(path, name) for name in names if is_deep and os.path.isdir(os.path.join(path, name))]
-            found += [Source(os.path.join(path, name)) for name in names if os.path.join(path, name) not in folders]
-            found += sources_of(folders, is_deep)
-        elif path.lower().endswith(".zip"):
-            with faults(path):
-                archive = zipfile.ZipFile(path)
-                found += [Source(path, archive, name) for name in sorted(archive.namelist()) if not name.endswith("/")]
-        else:
-            found.append(Source(path))
-    return found
+        folders = [name for name in names if is_deep and os.path.isdir(os.path.join(path, name))]
+        known = set(folders)
+        yield from (Source(os.path.join(path, name)) for name in names if name not in known)
+        for name in folders:
+            yield from inside(os.path.join(path, name), is_deep)
+    elif path.lower().endswith(".zip"):
+        with faults(path):
+            archive = archive_of(path)
+            names = sorted(archive.namelist())
+        yield from (Source(path, archive, name) for name in names if not name.endswith("/"))
+    else:
+        yield Source(path)
 
 
 def items(source, prefix):
@@ -98,7 +147,7 @@ def items(source, prefix):
                 number += 1
                 yield value
         except (ijson.JSONError, UnicodeDecodeError) as fault:
-            behind = f" behind {prefix.removesuffix('.item')} {number}" if number else ""
+            behind = f" after {prefix.removesuffix('.item')} {number}" if number else ""
             raise refused(source, f"no JSON, or cut off{behind}: {first_line(fault)}") from None
 
 

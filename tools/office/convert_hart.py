@@ -6,6 +6,7 @@ import convert_xml
 from convert_export import add_mark, Candidate, Card, Contest, Place, refused, Vote
 
 ROOT = "Cvr"
+WANTED = ".xml file; a file for each card was looked for (Hart's CVR folders)"
 VALUE = re.compile("[01]+")
 WRITE_IN = "write-in"
 ID_MEMBERS = ("BatchNumber", "BatchSequence")
@@ -18,16 +19,17 @@ class Export:
 
     def __init__(self, paths, options):
         self.paths, self.notes, self.contests, self.longest = paths, {}, {}, {}
-        self.sources = [source for source in convert_files.sources_of(paths, is_deep=True) if source.name.lower().endswith(".xml")]
-        if not self.sources:
-            raise refused(" ".join(paths), "has no .xml file; a file for each card was looked for (Hart's CVR folders)")
-        for source in self.sources:
+        for source in self.sources():
             for contest in convert_xml.children(self.contests_of(self.root(source)), "Contest"):
                 self.add_contest(contest, source)
         for key, contest in self.contests.items():
             contest.most_rank = self.longest[key]
             contest.is_ranked = self.longest[key] > 1
             contest.why_not = None if contest.is_ranked else "isn't ranked (each Value is one digit)"
+
+    def sources(self):
+        """The files of all cards, anew each time, so that no list of them is held."""
+        return convert_files.walked(self.paths, lambda name: name.lower().endswith(".xml"), WANTED, is_deep=True)
 
     def root(self, source):
         root = convert_xml.whole(source)
@@ -56,7 +58,10 @@ class Export:
             raise refused(here, f"the Value of {key} is {value or 'missing'}; a 0 or 1 for each rank was looked for")
         self.longest[contest.key] = max(self.longest.get(contest.key, 0), len(value))
         is_write_in = key == WRITE_IN
-        contest.add(Candidate(key, "Write-in" if is_write_in else self.wanted(option, "Name", here), is_write_in))
+        name = "Write-in" if is_write_in else self.wanted(option, "Name", here)
+        known = contest.candidates[contest.add(Candidate(key, name, is_write_in))].name
+        if known != name:
+            raise refused(here, f"the candidate {key} is called {name}, and {known} on an earlier card")
 
     def key_of(self, option, here):
         """The id of an option; all write-ins are one candidate."""
@@ -74,7 +79,7 @@ class Export:
 
     def cards(self, contests):
         taken = {contest.key: contest for contest in contests}
-        for source in self.sources:
+        for source in self.sources():
             yield self.card(self.root(source), Place(source), taken)
 
     def card(self, root, place, taken):
@@ -84,7 +89,7 @@ class Export:
             if contest is None:
                 continue
             if contest.key in stood:
-                raise refused(place.at(f"contest {contest.key}"), "stands twice on the card")
+                raise refused(place.at(f"contest {contest.key}"), "is on the card twice")
             stood.add(contest.key)
             votes.append(self.vote(element, contest, place.at(f"contest {contest.key}")))
         return Card(place, "_".join(self.wanted(root, name, place) for name in ID_MEMBERS) if votes else None, votes)

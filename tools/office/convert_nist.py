@@ -83,7 +83,7 @@ class Export:
             if key in taken:
                 here = place.at(f"contest {key}")
                 if key in stood:
-                    raise refused(here, "stands twice on the card")
+                    raise refused(here, "is on the card twice")
                 stood.add(key)
                 votes.append(self.vote(vote, taken[key], here))
         return Card(place, self.id_of(record, place) if votes else None, votes)

@@ -2,6 +2,7 @@
 import re
 
 import convert_files
+from alike import folded, HOW
 from convert_export import add_mark, Candidate, Card, Contest, Place, refused, Vote
 from convert_sheet import Meanings, title_of, WORDS
 
@@ -17,7 +18,7 @@ MOST_VOTERS = 10_000_000
 class Export:
     def __init__(self, paths, options):
         if len(paths) != 1:
-            raise refused(" ".join(paths), "one file of PrefLib at a time: each is a contest of its own")
+            raise refused(" ".join(paths), "one file of PrefLib at a time: each is a separate contest")
         self.notes, self.meanings = {}, Meanings(options.word)
         self.source = convert_files.Source(paths[0])
         self.read_heading()
@@ -40,7 +41,7 @@ class Export:
             if not found:
                 break
             if found[1] in self.heading:
-                raise refused(place, f"{found[1]} stands twice")
+                raise refused(place, f"{found[1]} is repeated")
             self.heading[found[1]] = place, found[2]
         if "DATA TYPE" not in self.heading:
             wanted = f"'# DATA TYPE: soi' or another of {', '.join(TYPES)} was looked for in the lines at the head"
@@ -60,10 +61,13 @@ class Export:
         count = self["NUMBER ALTERNATIVES"]
         if sorted(names) != list(range(1, count + 1)):
             raise refused(self.source, f"NUMBER ALTERNATIVES is {count}, and there are names of {', '.join(map(str, sorted(names))) or 'none'}")
-        self.keys = {}
+        self.keys, looks = {}, {}
         for number, (place, name) in sorted(names.items()):
             if not name or name in self.keys.values():
                 raise refused(place, f"{'no name' if not name else f'a second alternative is called {name}'}")
+            other = looks.setdefault(folded(name), name)
+            if other != name:
+                raise refused(place, f"{name} and {other} {HOW}; add what tells them apart")
             self.keys[number] = name
             self.see_name(place, name)
         return [Candidate(name, name, self.meanings.of(name) == "write-in") for _, name in sorted(self.keys.items())]

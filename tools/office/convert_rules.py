@@ -21,6 +21,10 @@ RULES = {
         "ignore": "the export's own numbers of overvotes and undervotes aren't looked at",
     },
 }
+CARDS_COUNTED = {  # what the words of counts say of a form that numbers its cards
+    "compare": "the export's own numbers of the cards have to be without a gap",
+    "ignore": "the export's own numbers of the cards aren't looked at",
+}
 OF_SOME = ("marks", "counts")  # rules that have a meaning for some forms alone
 OF_RANKS = ("overvotes", "skips", "repeats")  # rules that have a meaning where candidates are ranked
 
@@ -52,7 +56,7 @@ def ranking_of(marks, rules, counts):
             rank += 1
         else:
             continue
-        counts["ranks behind the end"] += sum(later >= rank for later in marks)
+        counts["ranks after the end"] += sum(later >= rank for later in marks)
         break
     return ranking
 

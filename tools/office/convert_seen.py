@@ -1,4 +1,5 @@
-"""What was read of cards by hand: seen files, and files of marks as they stand on paper. `seen` makes the ballot file of a full count of them, `marks` a seen file."""
+"""What was read of cards by hand: seen files, and files of marks as they stand on paper. `seen` makes the ballot file of a full count of them,
+`marks` a seen file."""
 import csv
 
 import convert_files
@@ -57,16 +58,18 @@ class Export:
     def read(self, place, fields, taken, votes):
         card, *rest = fields
         name = None
-        if rest and rest[0] not in (BALLOT, MARKS, records.MISSING):
+        if not any(rest):
+            raise refused(place, f"the card {card} has no reading")
+        if rest[0] not in (BALLOT, MARKS, records.MISSING):
             name, *rest = rest
             if name not in self.contests or not rest:
-                raise refused(place, f"{name or 'nothing'} is neither {BALLOT}, {MARKS} nor {records.MISSING}, nor a contest of {self.options.ballots}")
+                raise refused(place, f"{name or 'a blank'} is neither {BALLOT}, {MARKS} nor {records.MISSING}, nor a contest of {self.options.ballots}")
             self.has_contests = True
         elif len(taken) > 1:
             raise refused(place, f"doesn't say which contest it is about; --contest names one of: {'; '.join(taken)}")
         contest = self.contests[name] if name else next(iter(taken.values()))
         if (card, contest.key) in self.stood:
-            raise refused(place, f"the card {card} stood before{f' with the contest {name}' if name else ''}")
+            raise refused(place, f"the card {card} came before{f' with the contest {name}' if name else ''}")
         self.stood.add((card, contest.key))
         if contest.key in taken:
             self.add(place, card, contest, rest, votes)
@@ -98,7 +101,7 @@ class Export:
             raise refused(place, f"after {MARKS} a rank and a candidate were looked for, again and again; there are {len(fields)} fields")
         for rank, each in zip(fields[::2], fields[1::2]):
             if not (rank.isascii() and rank.isdigit() and int(rank) >= 1):
-                raise refused(place, f"{rank or 'nothing'} is no rank")
+                raise refused(place, f"{rank or 'a blank'} is no rank")
             add_mark(marks, int(rank), self.choice(place, contest, each, int(rank)))
         return marks
 

@@ -8,6 +8,7 @@ import xml.etree.ElementTree as tree
 import zipfile
 
 import convert_files
+from alike import folded, HOW
 from convert_export import add_mark, Candidate, Card, Contest, OVERVOTED, Place, RANKED, refused, told, Vote
 
 ESS_CHOICE = re.compile(r"(.*?)\s*\b(?:choice\s+(\d+)\s+of\s+\d+|(\d+)(?:st|nd|rd|th)\s+choice)\b\s*(.*)", re.IGNORECASE)
@@ -36,7 +37,7 @@ class Meanings:
         for word in given:
             cell, _, meaning = map(str.strip, word.rpartition("="))
             if not cell or not meaning:
-                raise told(f"--word wants a cell, = and what it stands for, such as 'over vote=overvote'; it has {word}")
+                raise told(f"--word needs a cell, = and what it means, such as 'over vote=overvote'; it has {word}")
             self.given[cell] = meaning
 
     def of(self, cell):
@@ -58,17 +59,13 @@ class Meanings:
     @staticmethod
     def why(cell):
         kinds = ", ".join(KINDS[:-1]) + f" or {KINDS[-1]}"
-        return f"{cell} is like a word for an overvote, an undervote or a write-in, and is none that is known; --word '{cell}={KINDS[0]}' says what it is: {kinds}"
+        told = f"{cell} is like a word for an overvote, an undervote or a write-in, and is none that is known"
+        return f"{told}; --word '{cell}={KINDS[0]}' says what it is: {kinds}"
 
 
 def is_like_a_word(cell):
     letters = re.sub("[^a-z]", "", cell.casefold())
     return letters.startswith(LIKE_WORDS[:3]) or bool(difflib.get_close_matches(letters, LIKE_WORDS, 1, LIKENESS))
-
-
-def folded(name):
-    """What names share that differ by case or blanks alone."""
-    return "".join(name.casefold().split())
 
 
 # ---- rows
@@ -101,7 +98,7 @@ def rows_of_workbook(source, sheet):
     try:
         import openpyxl
     except ImportError:
-        raise told("workbooks want openpyxl: apt-get install python3-openpyxl; or save the sheet as CSV (UTF-8)") from None
+        raise told("workbooks need openpyxl: apt-get install python3-openpyxl; or save the sheet as CSV (UTF-8)") from None
     with convert_files.faults(source):
         see_unmerged(source)
         try:
@@ -222,7 +219,10 @@ class Export:
         for number, line in convert_files.Source(self.options.candidates).lines():
             name = line.strip()
             if name in contests[0].numbers:
-                raise refused(f"{self.options.candidates}: line {number}", f"{name} stands twice")
+                raise refused(f"{self.options.candidates}: line {number}", f"{name} is repeated")
+            if contests[0].alike(name) is not None and not self.meanings.is_told(name):
+                both = f"{name} and {contests[0].alike(name)} {HOW}"
+                raise refused(f"{self.options.candidates}: line {number}", f"{both}; --word '{name}=candidate' says that they are two")
             if name:
                 contests[0].add(WRITE_IN if WORDS.get(name.lower()) == "write-in" else Candidate(name, name))
                 self.known[contests[0].key, folded(name)] = name
@@ -236,7 +236,7 @@ class Export:
                 votes = [vote for vote in (self.vote(contest, cells, place) for contest in contests) if vote is not None]
                 yield Card(place, "_".join(cells[column] for column in self.id_columns) if votes else None, votes)
             if number == 0:
-                raise refused(source, "has no records behind its head")
+                raise refused(source, "has no records below its head")
 
     def vote(self, contest, cells, place):
         cells = [cells[column] for column in self.columns[contest.key]]
@@ -263,11 +263,11 @@ class Export:
         return self.candidate(contest, cell, place.at(f"rank {rank}"))
 
     def candidate(self, contest, cell, place):
-        """Somebody who is named for the first time: not like another one by case or blanks alone."""
+        """Somebody who is named for the first time, and doesn't look like another one."""
         name = self.meanings.name(cell)
         known = self.known.setdefault((contest.key, folded(name)), name)
         if known != name and not self.meanings.is_told(cell):
-            raise refused(place, f"{name} and {known} differ by case or blanks alone; --word '{name}={known}' says that they are one, '{name}=candidate' that they are two")
+            raise refused(place, f"{name} and {known} {HOW}; --word '{name}={known}' says that they are one, '{name}=candidate' that they are two")
         if not contest.is_open and name not in contest.numbers:
             raise refused(place, f"{name} isn't in {self.options.candidates}")
         return contest.add(Candidate(name, name))

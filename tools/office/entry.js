@@ -59,6 +59,8 @@ function recall() {
 
 // ---- what a reading says
 
+const BY_RULES = "Mark the order that counts by the rules of the contest; Backspace takes the last mark away.";
+
 // The candidates by rank, or why a seen file can't say it.
 function ranked({marks}) {
     const found = marks.flat();
@@ -100,8 +102,8 @@ function change(how) {
 function mark(c, rank) {
     const {marks} = readings[at], had = marks.findIndex((each) => each.includes(c));
     if (marks[rank].includes(c)) return change((reading) => { reading.marks[rank] = marks[rank].filter((other) => other !== c); });
-    if (!hasMarks && marks[rank].length) return tell("Rank " + (rank + 1) + " has " + name(marks[rank][0]) + " already, and a seen file can’t say two at one rank.");
-    if (!hasMarks && had >= 0) return tell(name(c) + " has rank " + (had + 1) + " already, and a seen file can’t say two ranks of one candidate.");
+    if (!hasMarks && marks[rank].length) return tell("Rank " + (rank + 1) + " has " + name(marks[rank][0]) + " already, and a seen file can’t say two at one rank. " + BY_RULES);
+    if (!hasMarks && had >= 0) return tell(name(c) + " has rank " + (had + 1) + " already, and a seen file can’t say two ranks of one candidate. " + BY_RULES);
     change((reading) => { reading.kind = null; reading.marks[rank] = [...marks[rank], c].sort((a, b) => a - b); });
 }
 
@@ -109,8 +111,8 @@ function mark(c, rank) {
 function markNext(c) {
     const {marks} = readings[at], had = marks.findIndex((each) => each.includes(c));
     const rank = hasMarks ? marks.findLastIndex((each) => each.length) + 1 : marks.findIndex((each) => each.length === 0);
-    if (!hasMarks && had >= 0) return tell(name(c) + " has rank " + (had + 1) + " already.");
-    if (rank < 0 || rank >= ranks) return tell("All ranks have a mark: there are " + ranks + ".");
+    if (!hasMarks && had >= 0) return tell(name(c) + " has rank " + (had + 1) + " already. " + BY_RULES);
+    if (rank < 0 || rank >= ranks) return tell("All ranks have a mark: there are " + ranks + ". Take a mark away first.");
     mark(c, rank);
 }
 
@@ -149,7 +151,7 @@ function go(card) {
 
 function save() {
     const left = cards.filter((card, i) => !readings[i].taken).map((card) => card.id);
-    if (left.length) return tell((left.length === 1 ? "A card has" : left.length + " cards have") + " no reading that was taken: " + left.slice(0, 10).join(", ") + (left.length > 10 ? " .." : ""));
+    if (left.length) return tell((left.length === 1 ? "A card has" : left.length + " cards have") + " no reading that was taken: " + left.slice(0, 10).join(", ") + (left.length > 10 ? " .." : "") + ". Read them first.");
     const text = cards.map((card, i) => lineOf(card, readings[i]) + "\n").join("");
     const link = document.createElement("a");
     link.href = URL.createObjectURL(new Blob([text], {type: "text/csv"}));
@@ -261,7 +263,7 @@ function enter() {
 function ask(found) {
     const taken = found.readings.filter((each) => each.taken).length;
     by("whose").textContent = "This browser has " + taken + " of " + cards.length + " cards read by " + reader + ". Did you read them?";
-    by("same").textContent = "Yes, go on as " + reader;
+    by("same").textContent = "Yes, continue as " + reader;
     by("begin").hidden = true;
     by("again").hidden = false;
     asked = reader;

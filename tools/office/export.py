@@ -1,11 +1,12 @@
-"""The assertions of a contest in the JSON that SHANGRLA's notebooks read."""
+"""The assertions of a contest in the JSON that SHANGRLA's notebooks, raire-java or raire-rs read."""
 import json
 
+import export_solution
 from ask import ask, read, Refusal
 from words import see_output, Words
 
 NAME = "export"
-FORMS = ("shangrla",)
+FORMS = ("shangrla", "raire-java", "raire-rs")
 
 
 def words_of(words):
@@ -30,14 +31,18 @@ def eliminated(given, contest):
     return [line.removeprefix("eliminated ") for line in lines if line.startswith("eliminated ")]
 
 
+def see_kinds(file, form):
+    """No other tool has more kinds than two."""
+    for kind in {assertion["kind"] for assertion in file["assertions"]} - {"NEB", "NEN"}:
+        raise Refusal(1, f"{NAME}: the form {form} has no assertion of kind {kind}\n")
+
+
 def entry(assertion, candidates):
     """NEB is what SHANGRLA calls WINNER_ONLY; a NEN tells who is out in place of who is left."""
     winner, loser = assertion["winner"], assertion["loser"]
     if assertion["kind"] == "NEB":
         told = f"Rules out that {winner} is eliminated before {loser}"
         return {"winner": winner, "loser": loser, "already_eliminated": [], "assertion_type": "WINNER_ONLY", "explanation": told}
-    if assertion["kind"] != "NEN":
-        raise Refusal(1, f"{NAME}: no notebook of SHANGRLA reads an assertion of kind {assertion['kind']}\n")
     rest = set(assertion["rest"])
     out = [each for each in candidates if each not in rest]
     left = ", ".join(each for each in candidates if each in rest)
@@ -53,10 +58,16 @@ def shangrla(file, order):
     return {"Ballots involved in audit (#)": str(file["records"]), "audits": [audit]}
 
 
+def made(given, file):
+    if given.form == "shangrla":
+        return shangrla(file, eliminated(given, file["contest"]))
+    return export_solution.solution(file) if given.form == "raire-java" else export_solution.problem_and_solution(file, given.ballots, NAME)
+
+
 def answer(words):
     given = words_of(words)
     see_output(NAME, [given.ballots, given.assertions])
     file = accepted(given)
-    made = shangrla(file, eliminated(given, file["contest"]))
+    see_kinds(file, given.form)
     told = f"{len(file['assertions'])} assertions of contest {file['contest']}, which ./raire check accepts"
-    return json.dumps(made, indent=1) + "\n", f"{NAME}: {told}\n"
+    return json.dumps(made(given, file), indent=1) + "\n", f"{NAME}: {told}\n"

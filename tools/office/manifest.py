@@ -1,5 +1,6 @@
 """A manifest of the list of batches that an office or a vendor's system has: the columns that name a batch, and the one with its number of cards."""
 import os
+import re
 import tempfile
 
 import convert_export
@@ -22,6 +23,7 @@ FORMS = {
 }
 COUNTS = ("cards", "count", "ballots", "numberofballots", "numberofcards", "totalballots", "ballotcount", "cardcount", "sheets", "size")
 FIRSTS, LASTS = ("first", "from", "start", "firstimprint", "firstnumber", "begin"), ("last", "to", "end", "lastimprint", "lastnumber")
+TOTAL = re.compile(r"(grand |sub)?totals?\b|sum\b", re.IGNORECASE)  # a batch may be called Sumner
 MOST_TOLD = 20
 
 
@@ -44,7 +46,7 @@ def words_of(words):
 
 
 def refused(place, text):
-    return Refusal(2, f"{NAME}: {convert_export.one_line(f'{place}: {text}')}. {convert_export.WHAT_TO_DO}\n")
+    return Refusal(2, f"{NAME}: {convert_export.one_line(f'{place}: {text}')}\n")
 
 
 def plain(name):
@@ -83,7 +85,7 @@ class Columns:
 def number_of(cell, place, what, least=0):
     if not (cell.isascii() and cell.isdigit() and len(cell) <= 10 and int(cell) >= least):
         near = "".join(filter(str.isdigit, cell))
-        raise refused(place, f"{cell or 'nothing'} is no {what}" + (f"; without marks it would be {near}" if near and near != cell else ""))
+        raise refused(place, f"{cell or 'a blank'} is no {what}" + (f"; without marks it would be {near}" if near and near != cell else ""))
     return int(cell)
 
 
@@ -98,14 +100,14 @@ def batches_in(given):
     for place, row in rows:
         row += [""] * (len(head) - len(row))
         key = [row[column] for column in columns.key]
+        if not all(key) or TOTAL.match(key[0]):
+            raise refused(place, "the row has no batch: take a line of totals out of the list")
         size, span = size_of(columns, row, place)
-        if not all(key) or key[0].lower().startswith(("total", "sum")):
-            raise refused(place, f"a row of {size} cards has no batch: take a line of totals out of the list")
         batch = "_".join(str(int(part)) if given.form == "dominion" and part.isascii() and part.isdigit() else part for part in key)
         if not is_id(batch) or len(batch) > MOST_BATCH_BYTES:
             raise refused(place, f"no manifest can have the batch {batch}: 1 to {MOST_BATCH_BYTES} characters from space to ~, no comma and no double quote")
         if batch in places:
-            raise refused(place, f"the batch {batch} stood before, at {places[batch]}")
+            raise refused(place, f"the batch {batch} came before, at {places[batch]}")
         places[batch] = place
         if size == 0:
             empty.append(batch)
@@ -118,26 +120,34 @@ def batches_in(given):
 def size_of(columns, row, place):
     """The number of cards of a row, and the first and the last imprinted number where it has them."""
     size = number_of(row[columns.count], place, "number of cards") if columns.count is not None else None
-    if columns.first is None or size == 0:
+    if columns.first is None or size == 0 or size and not row[columns.first] and not row[columns.last]:
         return size, None
     first, last = (number_of(row[column], place, "imprinted number") for column in (columns.first, columns.last))
     if last < first or size not in (None, last - first + 1):
-        raise refused(place, f"the numbers {first} to {last} are {max(0, last - first + 1)} cards, and the count is {size}: see which cards are missing, or stand twice")
+        counted = f"the numbers {first} to {last} are {max(0, last - first + 1)} cards, and the count is {size}"
+        raise refused(place, f"{counted}: see which cards are missing or duplicated")
     return last - first + 1, (first, last)
+
+
+def missing(first, last):
+    return f"number {first} is" if first == last else f"numbers {first} to {last} are"
 
 
 def gaps_in(spans):
     """What imprinted numbers tell: numbers between two batches that none has, and batches that don't begin with 1 though each should."""
     begin = {first for first, _, _, _ in spans}
     if len(begin) < len(spans):  # each batch has numbers of its own
-        yield from (f"batch {batch} begins with the number {first}, and ids count from 1: numbers 1 to {first - 1} are missing" for first, _, batch, _ in spans if first > 1)
+        yield from (
+            f"batch {batch} begins with the number {first}, and ids count from 1: {missing(1, first - 1)} missing"
+            for first, _, batch, _ in spans if first > 1
+        )
         return
     upto, before = None, None
     for first, last, batch, place in sorted(spans, key=lambda span: span[:2]):
         if upto is not None and first <= upto:
             raise refused(place, f"the numbers {first} to {last} of batch {batch} overlap with those of batch {before}, which end with {upto}")
         if upto is not None and first > upto + 1:
-            yield f"numbers {upto + 1} to {first - 1} are missing: between batch {before} and batch {batch}"
+            yield f"{missing(upto + 1, first - 1)} missing: between batch {before} and batch {batch}"
         upto, before = last, batch
 
 
@@ -171,7 +181,9 @@ def answer(words):
         except Refusal as refusal:
             raise Refusal(refusal.status, refusal.text.replace(path, f"the manifest of {given.file}")) from None
     gaps = list(gaps_in(spans))
-    lines = [f"{len(sizes)} batches with {sum(sizes.values())} cards; the id of a card is batch, _ and its number from 1, as in {next(iter(sizes))}_1"]
+    batches, cards = len(sizes), sum(sizes.values())
+    counts = f"{batches} batch{'es' * (batches != 1)} with {cards} card{'s' * (cards != 1)}"
+    lines = [f"{counts}; the id of a card is batch, _ and its number from 1, as in {next(iter(sizes))}_1"]
     lines += [f"left out, since without cards: {', '.join(empty)}"] * bool(empty)
     lines += gaps[:MOST_TOLD] + [f"and {len(gaps) - MOST_TOLD} gaps more"] * (len(gaps) > MOST_TOLD) + see_total(sizes, places)
     return text, "".join(f"{NAME}: {line}\n" for line in lines)

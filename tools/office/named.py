@@ -11,9 +11,10 @@ sys.dont_write_bytecode = True
 import called
 import term_notes
 from ask import path_of_program, read, Refusal
-from words import put
+from words import ended, put, see_output
 
 NAME = "names"
+PLAN_POLL = os.path.join(os.path.dirname(os.path.realpath(__file__)), "plan_poll.py")
 
 
 def parted(words):
@@ -25,10 +26,10 @@ def parted(words):
             return path, [*rest, word, *words]
         if word == "--names" or word.startswith("--names="):
             if path is not None:
-                raise Refusal(1, f"{NAME}: --names stands twice\n")
+                raise Refusal(1, f"{NAME}: --names is given twice\n")
             path = word.partition("=")[2] if "=" in word else (words.pop(0) if words and not words[0].startswith("-") else "")
             if not path:
-                raise Refusal(1, f"{NAME}: --names wants a file: records contest,id,name, as ./raire convert --names writes it\n")
+                raise Refusal(1, f"{NAME}: --names needs a file: records contest,id,name, as ./raire convert --names writes it\n")
         else:
             rest.append(word)
     return path, rest
@@ -55,36 +56,38 @@ class Lines:
         self.see(contest)
 
     def see(self, contest):
+        self.contest = contest
         self.of = self.names.of(contest)
         self.one = "|".join(map(re.escape, sorted(self.of, key=len, reverse=True))) or "(?!)"
 
     def listed(self, text):
-        return "; ".join(self.of.get(c, c) for c in text.split(","))
+        return "; ".join(map(self.name, text.split(",")))
 
     def name(self, c):
-        return self.of.get(c, c)
+        return self.names.of(self.contest, [c]).get(c, c)
 
     def shown(self, line):
         if line.startswith("contest "):
             self.see(line.removeprefix("contest "))
             return f"contest {self.names.contest(line.removeprefix('contest '))}"
         if re.match("round [0-9]+: ", line):
-            return re.sub(rf" ({self.one})=(?=[0-9]+( |$))", lambda found: f" {self.name(found[1])}=", line)
+            parted_line = re.sub("(=[0-9]+) ", r"\1; ", line)  # names have blanks
+            return re.sub(rf" ({self.one})=(?=[0-9]+(;|$))", lambda found: f" {self.of[found[1]]}=", parted_line)
         claim = re.fullmatch(rf"((?:no: assertion )?NE[BN]|.*? NE[BN]) ({self.one}) ({self.one})(?: \{{([^}}]*)\}})?(.*)", line)
         if claim:
             rest = f" {{{self.listed(claim[4])}}}" if claim[4] is not None else ""
-            return f"{claim[1]} {self.name(claim[2])}, {self.name(claim[3])}{rest}{claim[5]}"
+            return f"{claim[1]} {self.listed(f'{claim[2]},{claim[3]}')}{rest}{claim[5]}"
         told = re.fullmatch("(tied |eliminated |winner |candidate |order |no: winner is |no: order )(.*?)( stands)?", line)
         return f"{told[1]}{self.listed(told[2])}{told[3] or ''}" if told else line
 
 
 def answer(words):
     path, rest = parted(words)
-    try:
-        names = called.Called(path, read(NAME, path))
-    except called.BadNames as bad:
-        raise Refusal(2, f"{NAME}: {bad}\n") from None
-    ran = subprocess.run([path_of_program(NAME), *rest], stdin=subprocess.DEVNULL, stdout=subprocess.PIPE)
+    see_output(NAME, [path])
+    names = called.Called(path, read(NAME, path))
+    is_poll_plan = rest[:1] == ["plan"] and "--poll" in rest
+    called_with = [PLAN_POLL, *rest[1:]] if is_poll_plan else [path_of_program(NAME), *rest]
+    ran = subprocess.run(called_with, stdin=subprocess.DEVNULL, stdout=subprocess.PIPE)
     lines = Lines(names, contest_of(rest))
     return ran.returncode, "".join(f"{lines.shown(line)}\n" for line in ran.stdout.decode(errors="replace").splitlines())
 
@@ -93,9 +96,10 @@ def main():
     try:
         status, text = answer(sys.argv[1:])
         put(NAME, text)
+    except called.BadNames as bad:
+        return ended(NAME, Refusal(2, f"{NAME}: {bad}\n"))
     except Refusal as refusal:
-        sys.stderr.write(refusal.text)
-        return refusal.status
+        return ended(NAME, refusal)
     return status
 
 

@@ -7,6 +7,8 @@ import csv
 import io
 import itertools
 
+import share
+
 MARK = b"\xef\xbb\xbf"
 MISSING = "missing"
 MARKS = "marks"  # of a file of marks: behind it stand ranks, each with who is marked there
@@ -35,7 +37,9 @@ def rows(text):
 def rows_of(data):
     """The numbered records of bytes. A byte order mark at the start is taken off, and a second one behind it."""
     data = data.removeprefix(MARK).removeprefix(MARK)
-    return rows(io.StringIO(data.decode(errors="surrogateescape"), newline=""))
+    text = io.StringIO(data.decode(errors="surrogateescape"), newline="")
+    share.reading(len(data), text.tell)
+    return rows(text)
 
 
 def text_of(written):
@@ -103,11 +107,11 @@ def seen_of(data):
         if not any(reading):
             raise Broken("V1", at, f"the card {short(card)} has no reading")
         if reading[0] not in ("ballot", MISSING, MARKS):
-            raise Broken("V1", at, f"the card {short(card)} has neither ballot nor missing behind it, but {short(reading[0]) or 'nothing'}")
+            raise Broken("V1", at, f"the card {short(card)} has neither ballot nor missing after it, but {short(reading[0]) or 'nothing'}")
         if reading[0] == MISSING and any(reading[1:]):
-            raise Broken("V1", at, f"the card {card} is missing, and something stands behind that")
+            raise Broken("V1", at, f"the card {card} is missing, and something comes after that")
         if card in seen:
-            raise Broken("V3", at, f"the card {card} stood before, in record {places[card]}")
+            raise Broken("V3", at, f"the card {card} came before, in record {places[card]}")
         seen[card] = MISSING if reading[0] == MISSING else marks_of(at, card, reading[1:]) if reading[0] == MARKS else ranking_of(reading[1:])
         places[card] = at
     return seen
@@ -122,7 +126,7 @@ def marks_of(at, card, fields):
         fields = fields[:-1]
     ranks = fields[::2]
     if len(fields) % 2 or not all(rank.isascii() and rank.isdigit() and int(rank) >= 1 for rank in ranks):
-        raise Broken("V1", at, f"the card {card} has marks, and behind that no ranks with a candidate each")
+        raise Broken("V1", at, f"the card {card} has marks, and after that no ranks with a candidate each")
     return Marks(sorted({(int(rank), candidate) for rank, candidate in zip(ranks, fields[1::2])}))
 
 

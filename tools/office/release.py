@@ -33,8 +33,8 @@ PAGE = """\
 | SHA-256 of the program, `{program}` | {digest} |
 | runs on | x86-64 Linux with glibc; the prover isn't needed |
 
-Unpack it anywhere, and begin with README.md, in this folder: `./raire help`. What wants Python says so itself, and tells the package that is missing.
-README's first use, which proves and builds, is over and done with here: the program is the one that was built then. Links of the pages to `crates/`
+Unpack it anywhere, and begin with README.md, in this folder: `./raire help`. What needs Python says so, and names the missing package.
+README's first step, which proves and builds, isn't needed here: the program is the one that was built then. Links of the pages to `crates/`
 and CONTRIBUTING.md lead to the repository, since the sources aren't in this file.
 
 ## Is it what was released?
@@ -42,7 +42,8 @@ and CONTRIBUTING.md lead to the repository, since the sources aren't in this fil
     sha256sum --check --quiet SHA256SUMS      # each file is the one that was put in
     ./raire --version                         # the commit and the kit
 
-Whoever published this file has to publish its own SHA-256 too, on another way: `SHA256SUMS` only shows that nothing was damaged.
+The publisher of this file has to publish its own SHA-256 too, in another way: `SHA256SUMS` only shows that nothing was damaged. The Debian package has the
+list that `dpkg --verify raire` compares, which shows no more: compare the package's own SHA-256 with the one that was published.
 
 ## Proving it anew
 
@@ -55,9 +56,10 @@ With the kit named above, on any machine:
     ./raire --build
     sha256sum {program}
 
-docs/trust.md says what each step shows, and what has to be believed. The program is what the kit's compiler makes of the proved code; that is proved by
-nobody, and that another machine gets the same bytes isn't claimed: run what you built yourself where that matters. All else in this file is text that
-can be compared with the commit: `./raire release` takes it from there. From one commit and one program `./raire release` makes the same bytes each time.
+docs/trust.md says what each step shows, and what has to be believed. The kit's compiler makes the program of the proved code. Nobody has
+proved the compiler, and nobody claims that another machine gets the same bytes: if that matters, run what you built yourself. The rest of this
+file is text that can be compared with the commit: `./raire release` takes it from there. From one commit and one program `./raire release`
+makes the same bytes each time.
 """
 
 
@@ -157,9 +159,11 @@ def main(words):
         parser = Words(NAME)
         parser.add_argument("folder", nargs="?", default=".")
         folder = parser.parse_args(words).folder
+        if not os.path.isdir(folder):
+            raise told(f"there is no folder {folder}: make it first")
         commit = Commit()
         if commit.is_changed():
-            raise told("a file of the folder is new or another one than in the commit: git status tells which")
+            raise told("a file of the folder is new or differs from the commit: git status shows which")
         parts = made(commit, *proved())
         for name, data in parts:
             write(folder, name, data)

@@ -55,7 +55,7 @@ def gone_of(votes, tied, order, lines, shown):
     raise Tied(tied)
 
 
-def counted(ids, rankings, order, shown):
+def counted(ids, rankings, order, shown, between):
     """The lines of the rounds, and who wins, or who is tied where the order doesn't go on."""
     lines, remaining = [], list(ids)
     for number in range(1, len(ids)):
@@ -66,7 +66,8 @@ def counted(ids, rankings, order, shown):
                 exhausted += ballots
             else:
                 votes[first] += ballots
-        lines.append(f"round {number}: {' '.join(f'{shown([c])}={votes[c]}' for c in remaining)} exhausted={exhausted}")
+        tallies = [*(f"{shown([c])}={votes[c]}" for c in remaining), f"exhausted={exhausted}"]
+        lines.append(f"round {number}: {between.join(tallies)}")
         tied = [c for c in remaining if votes[c] == min(votes.values())]
         try:
             gone = gone_of(votes, tied, order, lines, shown)
@@ -77,12 +78,13 @@ def counted(ids, rankings, order, shown):
     return [*lines, f"winner {shown(remaining)}"], remaining[0], None
 
 
-def names_of(given, contest):
+def names_of(given, contest, ids):
+    """The file of names, and what the candidates of the contest are called."""
     try:
         found = called.Called(given.names, read(NAME, given.names)) if given.names is not None else called.Nobody()
+        return found, found.of(contest, ids)
     except called.BadNames as bad:
         raise Refusal(2, f"{NAME}: {bad}\n") from None
-    return found
 
 
 def answer(words):
@@ -92,8 +94,8 @@ def answer(words):
     data = read(NAME, given.ballots)
     contests = records.contests_of(data)
     contest = given.contest if given.contest is not None else next(iter(contests))
-    names, order = names_of(given, contest), order_of(given, contests[contest])
-    called_of = names.of(contest)
+    names, called_of = names_of(given, contest, contests[contest])
+    order = order_of(given, contests[contest])
 
     def shown(ids):
         called_so = [called_of.get(c, c) for c in ids]
@@ -102,7 +104,8 @@ def answer(words):
     rankings = {}
     for _, ranking in records.ballots_of(data, contest):
         rankings[ranking] = rankings.get(ranking, 0) + 1
-    lines, winner, tied = counted(contests[contest], rankings, order, shown)
+    between = " " if given.names is None else "; "  # names have blanks
+    lines, winner, tied = counted(contests[contest], rankings, order, shown, between)
     head = [f"contest {names.contest(contest)}", f"records {sum(rankings.values())}"]
     out = "".join(f"{line}\n" for line in [*head, *lines])
     if tied:
@@ -112,10 +115,10 @@ def answer(words):
 
 def account(text, winner, order, shown):
     """What is told beside the rounds: that they aren't proved, and what the program says of the winner."""
-    lines = ["counted by this tool alone: nothing of it is proved"]
+    lines = ["counted only by this tool: nothing of it is proved"]
     lines += [f"where candidates tie, the first of these is eliminated: {shown(order)}"] * bool(order)
     if text is None:
-        lines.append("by the records alone the contest is tied: ./raire search finds no assertions, and the winner hangs on the order")
+        lines.append("by the records the contest is tied: ./raire search finds no assertions, and the winner depends on the order")
     else:
         same = "the same winner, however ties are broken" if text.splitlines()[-1] == f"winner {winner}" else "ANOTHER WINNER: report it"
         lines.append(f"./raire tabulate has {same}")

@@ -1,7 +1,8 @@
-#!/usr/bin/env python3
+#!/usr/bin/python3
 """Says what of an audit's terms is easily taken for something else: a risk limit, which counts millionths, and the blanks of a seed.
 
-tools/office/term_notes.py WORDS.. is what ./raire asks after an answer, if --limit or --seed is among its words, or its command is report.
+tools/office/term_notes.py [--refused] WORDS.. is what ./raire asks after an answer, if --limit or --seed is among its words, or its command is
+report; and after a refusal, of which only the blanks of a seed may be the cause.
 """
 import json
 import re
@@ -10,6 +11,7 @@ import sys
 BLANK = "\u2423"
 LEAST_USUAL_LIMIT, MOST_USUAL_LIMIT = 1_000, 200_000  # 0.1 and 20 percent
 MOST_SESSION_BYTES = 67_108_864
+REFUSED = "--refused"
 LEAST_SEED = 12  # characters; a date with two dice has more, so this only finds seeds that nobody threw
 
 
@@ -76,6 +78,12 @@ def seed_of_session(path):
 
 
 def notes(words):
+    if words[0] == REFUSED:
+        return [seed_note(value_of("seed", words[1:]) or "")]
+    return notes_of_answer(words)
+
+
+def notes_of_answer(words):
     command, limit, seed = words[0], value_of("limit", words), value_of("seed", words)
     if command == "report" and len(words) > 1:
         seed = seed_of_session(words[-1])
@@ -89,7 +97,7 @@ def notes(words):
 
 def main():
     sys.stderr.reconfigure(errors="backslashreplace")
-    for note in notes(sys.argv[1:]):
+    for note in filter(None, notes(sys.argv[1:])):
         sys.stderr.write(f"raire: {note}\n")
 
 

@@ -3,6 +3,8 @@ import argparse
 import os
 import sys
 
+import share
+import what_to_do
 from ask import Refusal, TOP
 
 
@@ -11,7 +13,7 @@ class Once(argparse.Action):
 
     def __call__(self, parser, namespace, value, option=None):
         if getattr(namespace, self.dest) is not None:
-            parser.error(f"{option} stands twice")
+            parser.error(f"{option} is given twice")
         setattr(namespace, self.dest, value)
 
 
@@ -26,7 +28,7 @@ class Words(argparse.ArgumentParser):
             self.add_argument(name, action=Once, **given)
 
     def error(self, message):
-        raise Refusal(1, f"{self.prog}: {message}; ./raire help {self.prog} tells its words\n")
+        raise Refusal(1, f"{self.prog}: {message}; ./raire help {self.prog} lists its words\n")
 
 
 def ask_for_help(words):
@@ -59,7 +61,8 @@ def put(name, text):
 def main(name, answer, words):
     """The status of a command. `answer` gives its text, and what is told beside it."""
     try:
-        text, account = (help_of(name), "") if ask_for_help(words) else answer(words)
+        with share.shown([name, *words]):
+            text, account = (help_of(name), "") if ask_for_help(words) else answer(words)
         put(name, text)
         sys.stderr.write(account)
     except Refusal as refusal:
@@ -74,5 +77,5 @@ def ended(name, refusal):
             put(name, refusal.out)
     except Refusal as full:
         refusal = full
-    sys.stderr.write(refusal.text)
+    sys.stderr.write(what_to_do.said(name, refusal.status, refusal.text))
     return refusal.status

@@ -1,6 +1,7 @@
 """A Debian package of a release: the program, the tools, man pages, completions and the docs."""
 import email.utils
 import gzip
+import hashlib
 import os
 import re
 import shutil
@@ -17,6 +18,7 @@ PROGRAM = "crates/raire/out/raire"
 RUNS = ("raire", "VERSION", "RELEASE", "crates/", "tools/", "plain/", "docs/")  # what is installed to be run or read by what runs
 SHOWN = {"README.md": "README.md", "CHANGELOG.md": "CHANGELOG.md", "RELEASE.md": "RELEASE.md", "CITATION.cff": "CITATION.cff"}
 LINKS = {f"usr/bin/{NAME}": f"../lib/{NAME}/{NAME}", f"{DOC}/docs": f"../../../lib/{NAME}/docs"}
+PYTHON = "python3 (>= 3.11)"  # as README has it; its libraries are recommended, since each tool says which one it lacks
 MAINTAINER = "RAIRE audit suite maintainers <maintainers@users.noreply.keqsadow.example>"
 
 CONTROL = """\
@@ -26,7 +28,7 @@ Architecture: {machine}
 Maintainer: {maintainer}
 Installed-Size: {size}
 Depends: {depends}
-Recommends: python3-jinja2, python3-ijson, python3-openpyxl, snakemake
+Recommends: python3-jinja2, python3-ijson, python3-openpyxl, python3-flask, python3-waitress, snakemake
 Section: utils
 Priority: optional
 Description: audits contests of instant-runoff voting, by a proved program
@@ -69,7 +71,7 @@ def needs(program):
     """The packages that the program and its tools stand on."""
     versions = [tuple(map(int, found.split(b"."))) for found in set(re.findall(rb"GLIBC_(\d+(?:\.\d+)+)", program))]
     libc = f"libc6 (>= {'.'.join(map(str, max(versions)))})" if versions else "libc6"
-    return ", ".join([libc, *["libgcc-s1"] * (b"libgcc_s.so.1" in program), "python3"])
+    return ", ".join([libc, *["libgcc-s1"] * (b"libgcc_s.so.1" in program), PYTHON])
 
 
 def zipped(text):
@@ -95,10 +97,15 @@ def contents(files, version, commit, when):
         f"usr/share/lintian/overrides/{NAME}": OVERRIDES.format(name=NAME, home=HOME, program=PROGRAM).encode(),
         f"usr/share/bash-completion/completions/{NAME}": completions.for_bash(pages).encode(),
         f"usr/share/zsh/vendor-completions/_{NAME}": completions.for_zsh(pages).encode(),
-        **{f"{MAN}/{'raire' if name == 'raire' else f'raire-{name}'}.1.gz": zipped(man.page(name, text, version, date)) for name, text in pages.items()},
+        **{f"{MAN}/{'raire' if name == 'raire' else f'raire-{name}'}.1.gz": zipped(man.page(name, pages, version, date)) for name in pages},
     }
     put.update({name: kind(data, 0o644) for name, data in texts.items()})
     return put
+
+
+def sums(put):
+    """The MD5 of each file, as dpkg compares them. Links have none."""
+    return "".join(f"{hashlib.md5(put[name].data, usedforsecurity=False).hexdigest()}  {name}\n" for name in sorted(put))
 
 
 def lay_out(folder, put, when):
@@ -129,8 +136,10 @@ def made(files, version, commit, when):
     with tempfile.TemporaryDirectory() as folder:
         tree, out = os.path.join(folder, "tree"), os.path.join(folder, "out.deb")
         os.makedirs(os.path.join(tree, "DEBIAN"))
-        with open(os.path.join(tree, "DEBIAN", "control"), "w") as file:
-            file.write(control)
+        for name, text in (("control", control), ("md5sums", sums(put))):
+            with open(os.path.join(tree, "DEBIAN", name), "w") as file:
+                file.write(text)
+            os.chmod(os.path.join(tree, "DEBIAN", name), 0o644)
         lay_out(tree, put, when)
         given = {**os.environ, "SOURCE_DATE_EPOCH": str(when)}
         subprocess.run(["dpkg-deb", "--root-owner-group", "-Zxz", "--threads-max=1", "--build", tree, out], check=True, capture_output=True, env=given)

@@ -14,19 +14,30 @@ def as_it_stands(text):
     return [".nf", *map(in_roff, text.splitlines()), ".fi"]
 
 
+def listed(pages):
+    """What each command is about, by the list of commands on the first page. Those are left out that share a line, or that point at the line above."""
+    found, name = {}, ""
+    for line in pages["raire"].partition("\n\n")[2].partition("\n\n")[0].splitlines():
+        words, about = re.fullmatch(r"  (\S+(?: \S+)*)? *(.*)", line).groups()
+        name = words.split()[0] if words else name
+        if about and "," not in name and "such " not in about:
+            found.setdefault(name, about.partition(": ./raire")[0])
+    return found
+
+
 def first_sentence(text):
-    """What the page is about, in one line, for the list of pages."""
-    return re.split(r"(?<=[a-z)])[.:](?:\s|$)", " ".join(text.split()))[0][:120]
+    return re.split(r"(?<=[a-z)])[.:](?:\s|$)", " ".join(text.split()))[0]
 
 
-def page(name, text, version, date):
+def page(name, pages, version, date):
     """The man page `raire` or `raire-NAME`, of the help page of that name. There the command is typed without a folder."""
-    text = text.replace("./raire", "raire")
+    text = pages[name].replace("./raire", "raire")
     head, _, body = text.partition("\n\n")
     title = "raire" if name == "raire" else f"raire-{name}"
-    about = "audits contests of instant-runoff voting" if name == "raire" else first_sentence(body)
+    about = "audits contests of instant-runoff voting" if name == "raire" else listed(pages).get(name) or first_sentence(body)
+    see = ".BR raire (1)" if name != "raire" else "Each command has a page of its own, such as\n.BR raire\\-search (1)."
     lines = [
-        f'.TH {title.upper()} 1 "{date}" "raire {version}" "{SUITE}"', ".SH NAME", f"{in_roff(title)} \\- {in_roff(about)}", ".SH SYNOPSIS",
-        *as_it_stands(head), ".SH DESCRIPTION", *as_it_stands(body), ".SH SEE ALSO", ".BR raire (1)" if name != "raire" else "Each command has a page of its own, such as\n.BR raire\\-search (1).",
+        f'.TH {title.upper()} 1 "{date}" "raire {version}" "{SUITE}"', ".SH NAME", f"{in_roff(title)} \\- {in_roff(about)}",
+        ".SH SYNOPSIS", *as_it_stands(head), ".SH DESCRIPTION", *as_it_stands(body), ".SH SEE ALSO", see,
     ]
     return "\n".join(lines) + "\n"

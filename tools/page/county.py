@@ -61,7 +61,8 @@ class County:
         self.page.shown_of(ballots)
         status, text = self.page.program.must_run("tabulate", self.paths[:1], *words)
         found = {
-            "name": self.page.names.contest(name), "ids": ballots.ids, "records": ballots.records, "tabulation": self.page.tabulation(status, text, ballots.ids),
+            "name": self.page.names.contest(name), "ids": ballots.ids, "records": ballots.records,
+            "tabulation": self.page.tabulation(status, text, ballots.ids),
             "without": self.manifest.cards - ballots.records,
         }
         if block[1] == "tie":
@@ -83,7 +84,7 @@ class County:
         states = [state_of(line, self.terms["limit"]) for line in block[4:-1]]
         seen = self.seen[ballots.name]
         if audit.counted(self.draws_of, recorded, pairs, seen) != [state["counts"] for state in states]:
-            raise told(f"{self.paths[2]} doesn't give the counts that {self.page.program.name} tells of contest {ballots.name}")
+            raise told(f"{self.paths[2]} doesn't give the counts that {self.page.program.name} prints for contest {ballots.name}")
         claims = [
             {"claim": self.page.named(claim), "margin": claim["margin"], "state": state, "number": j}
             for j, (claim, state) in enumerate(zip(file["assertions"], states), 1)
@@ -107,7 +108,8 @@ def state_in_words(county):
     """The kind, the head and the text of what stands on top."""
     contests, draws = county.contests, county.terms["draws"]
     signed = sum(contest["kind"] == "signed" for contest in contests)
-    each, after = f"each assertion of {'it' if signed == 1 else 'these'} has a risk of at most {millionths(county.terms['limit'])}", f"after {plural(draws, 'draw')}"
+    each = f"each assertion of {'it' if signed == 1 else 'these'} has a risk of at most {millionths(county.terms['limit'])}"
+    after = f"after {plural(draws, 'draw')}"
     if county.status == 0:
         return "signed", f"ALL SIGNED OFF {after}: {plural(len(contests), 'contest')}.", f"{each[0].upper()}{each[1:]}."
     head = f"{signed} OF {plural(len(contests), 'CONTEST', 'CONTESTS')} SIGNED OFF {after}:"
@@ -127,11 +129,12 @@ def told_of(contests, kind, words):
 def see_files(page):
     """All contests on one sample have seed and draws, and nothing that is of one contest."""
     if "--contest" in page.options:
-        raise told("--contest is of one contest, and these files and options are of all: leave it away, or give a session or an assertion file")
+        raise told("--contest is of one contest, and these files and options are of all: omit it, or give a session or an assertion file")
     if "--sets" in page.options:
         raise told("all contests on one sample have no --sets: give --nodes")
+    if "--each" in page.options:
+        raise told("--each is of a poll, and these files and options are of all contests: omit it, or give an assertion file in place of the ballot file")
     if page.has("names") and not page.names.all.has_contests:
         raise told(f"{page.path('names')} names the candidates of one contest, and these files and options are of all: begin it with contest,id,name")
     if page.has("counted"):
         raise told(f"{page.path('counted')} is a full count of one contest, and these files and options are of all")
-

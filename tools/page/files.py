@@ -8,6 +8,7 @@ import tempfile
 
 import plain
 import plain_audit
+import what_to_do
 from limits import MOST_BATCH_BYTES, MOST_BATCH_CARDS, MOST_CONTESTS
 
 KINDS = {
@@ -91,7 +92,7 @@ def given(paths):
         try:
             file = File(path)
         except plain_audit.End as end:
-            raise Refusal(end.answer[0], end.answer[2]) from None
+            raise Refusal(end.answer[0], end.answer[2] + cause_of(end.answer[2])) from None
         files[file.kind].append(file)
     if len(files["ballots"]) == 2:
         files["ballots"], files["counted"] = told_apart(files["ballots"], files["session"])
@@ -99,6 +100,13 @@ def given(paths):
         if len(same) > 1:
             raise told(f"{same[0].path} and {same[1].path} are both of one kind ({KINDS[kind]}); give one of them{OR_COUNTED * (kind == 'ballots')}")
     return {kind: same[0] for kind, same in files.items() if same}
+
+
+def cause_of(line):
+    """The line that ./raire adds for a file that can't be read."""
+    key = line.rstrip("\n").rpartition(": ")[2]
+    cause = what_to_do.table.causes().get(key)
+    return f"raire: {key}: {cause}. What to do: {what_to_do.PAGE}\n" if cause else ""
 
 
 OR_COUNTED = ", or call the one that was counted in full “counted”"

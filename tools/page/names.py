@@ -23,18 +23,16 @@ class Names:
         return self.by_id.get(c, c)
 
     def see(self, ids, contest):
-        """From here on the names are those of this contest: each is that of a candidate, and no two candidates are called the same."""
-        self.by_id = self.all.of(contest)
+        """From here on the names are those of this contest: each is that of a candidate, and no two candidates are shown alike."""
+        try:
+            self.by_id = self.all.of(contest, ids)
+        except called.BadNames as bad:
+            raise told(str(bad)) from None
         if self.path and not self.by_id:
             raise told(f"{self.path} has no names for the candidates of contest {contest}")
         for c in self.by_id:
             if c not in ids:
                 raise told(f"{self.path} has a name for {c}, who is no candidate")
-        shown = {}
-        for c in ids:
-            other = shown.setdefault(self.of(c), c)
-            if other != c:
-                raise told(f"by {self.path} both {other} and {c} are called {self.of(c)}")
 
     def in_line(self, line, ids):
         """A line of a check, with names for ids."""

@@ -1,4 +1,4 @@
-"""Clean draws: those that an assertion file of version 2 says, and those that a plan works out for the cards of a manifest."""
+"""Clean draws: those that an assertion file says if it has a plan, and those that a plan works out for the cards of a manifest."""
 from texts import listed, millionths, plural
 
 TERMS = ("cards", "limit", "gamma")
@@ -6,8 +6,8 @@ DEFAULTS = {"limit": 50_000, "gamma": 100}  # of a plan without words
 
 
 def said_by(file):
-    """What an assertion file says, with the terms that it is for; None of version 1."""
-    if file["version"] != 2:
+    """What an assertion file says, with the terms that it is for; None if it has no plan. In version 1 such members aren't looked at."""
+    if file["version"] == 1 or "cards" not in file:
         return None
     return {**{name: file[name] for name in TERMS}, "draws": [claim["draws"] for claim in file["assertions"]]}
 

@@ -6,10 +6,17 @@ import shutil
 import subprocess
 import tempfile
 
+import share
 from files import Refusal, told
 
 TOP = os.path.dirname(os.path.dirname(os.path.dirname(os.path.abspath(__file__))))
 STANDS_IN = b"1\nContest,none of these,2,1,2\n"
+
+
+def words_of(command, paths, options):
+    if any(path.startswith("-") for path in paths):
+        return [command, *options, "--", *paths]
+    return [command, *paths, *options]
 
 
 class Program:
@@ -28,7 +35,8 @@ class Program:
 
     def build(self):
         """Where there is no program yet, ./raire tells how far it is, on standard error."""
-        built = subprocess.run([self.path, "--build"], stdout=subprocess.DEVNULL)
+        with share.away():
+            built = subprocess.run([self.path, "--build"], stdout=subprocess.DEVNULL)
         if built.returncode:
             raise Refusal(built.returncode, "show: there is no program to ask\n")
 
@@ -40,10 +48,7 @@ class Program:
 
     def run(self, command, paths, *options, is_shown=True):
         """Status and text of an answer; None where the program has no such command."""
-        words = [command, *paths, *options]
-        if any(path.startswith("-") for path in paths):
-            words = [command, *options, "--", *paths]
-        ran = self.answer(words)
+        ran = self.answer(words_of(command, paths, options))
         if ran.returncode == 1:
             return None
         self.was_asked = True
@@ -53,8 +58,12 @@ class Program:
         if not out:
             raise self.is_another(command)
         if is_shown:
-            self.asked.append({"words": shlex.join([self.name, *words]), "status": ran.returncode})
+            self.tell(ran.returncode, command, paths, *options)
         return ran.returncode, out
+
+    def tell(self, status, command, paths, *options):
+        """The page says that this was asked."""
+        self.asked.append({"words": shlex.join([self.name, *words_of(command, paths, options)]), "status": status})
 
     def must_run(self, command, paths, *options, is_shown=True):
         answer = self.run(command, paths, *options, is_shown=is_shown)

@@ -1,6 +1,7 @@
 """The state of an audit, for the top of a page. A mark and a frame tell it too, for those who see no colours or no words."""
 import audit
 import county
+import polled
 import term_notes
 from limits import GREATEST_GAMMA, MOST_DRAWS
 from texts import millionths, plural
@@ -58,7 +59,7 @@ def wholeness(ballots, cards, records):
         return "part", f"COUNTED, BUT {all_of - ballots:,} OF {all_of:,} {what} {have} NO BALLOT IN IT:", more
     if ballots > all_of:
         return "part", f"COUNTED, WITH {ballots:,} BALLOTS FOR {all_of:,} {what}:", "Some ballots are of no card: see which."
-    return "counted", "COUNTED IN FULL:", "Whether these are all ballots is for those who watched the count to say."
+    return "counted", "COUNTED IN FULL:", "Only those who watched the count can say whether these are all ballots."
 
 
 def of_poll(poll, winner):
@@ -68,14 +69,18 @@ def of_poll(poll, winner):
     limit, draws, claims = millionths(poll["limit"]), plural(poll["draws"], "draw"), poll["claims"]
     above = sum(not claim["is_confirmed"] for claim in claims)
     missing = f"{above} of {plural(len(claims), 'assertion')} {'is' if above == 1 else 'are'} above the limit of {limit}. This says nothing about who won."
-    if poll["status"] == 0:
+    if poll["status"] == 0 and poll["is_each"]:
+        each = f"each assertion had a risk of at most {limit} after one of the draws, which were looked at one by one"
+        text = f"The poll confirms {winner} as the winner: {each}."
+        state = told("signed", f"CONFIRMED BY A POLL by draw {polled.last_draw(poll):,}.", text)
+    elif poll["status"] == 0:
         text = f"The poll confirms {winner} as the winner: each assertion has a risk of at most {limit} by the drawn cards."
         state = told("signed", f"CONFIRMED BY A POLL after {draws}.", text)
     elif poll["draws"] >= MOST_DRAWS or len(audit.draws_by_card(poll, poll["draws"])) == poll["cards"]:
         state = told("unsigned", "NOT CONFIRMED BY A POLL, and no cards left:", f"{missing} Count in full.")
     else:
         state = told("open", f"OPEN: not confirmed by a poll after {draws}:", f"{missing} Draw further cards with the same seed, or count in full.")
-    return [state, *unusual(poll, ANY_GAMMA)]
+    return [state, *unusual(poll, [poll["gamma"]] if poll["is_each"] else ANY_GAMMA)]
 
 
 def of_county(all_of):
@@ -100,8 +105,8 @@ def of_session(parts, session, counted):
         head = f"SIGNED OFF in round {number}, after {plural(session['rounds'][number - 1]['draws'], 'draw')}"
         text = f"Each assertion had a risk of at most {limit} at the end of a round. "
         if parts["is_replayed"]:
-            return told("signed", f"{head}.", text + "The program ran the whole audit again, and ended with the same bytes.")
-        return told("said", f"{head}, so the session says.", text + (WANTED if parts["is_replayed"] is None else OTHERWISE))
+            return told("signed", f"{head}.", f"{text}The program ran the whole audit again, and ended with the same bytes. {TERMS_FIRST}")
+        return told("said", f"{head}, so the session says.", f"{text}{WANTED if parts['is_replayed'] is None else OTHERWISE} {TERMS_FIRST}")
     if not session["rounds"]:
         return told("open", "OPEN: no card was drawn yet.", f"{above} to be confirmed, at a risk of at most {limit} each.")
     draws, rounds = session["rounds"][-1]["draws"], plural(len(session["rounds"]), "round")
@@ -114,6 +119,7 @@ def of_session(parts, session, counted):
     return told("open", f"OPEN: not signed off after {plural(draws, 'draw')} in {rounds}:", f"{missing} Draw further cards, or count in full.{by_whom}")
 
 
+TERMS_FIRST = "This holds only if the terms were published before the seed was drawn, and if there was one seed."
 WANTED = "Give all its files, and what was read from the cards, to have the program run the audit again."
 OTHERWISE = "The program ran the whole audit again, and ended with other bytes."
 

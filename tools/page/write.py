@@ -18,10 +18,12 @@ import plain_audit
 import planned
 import polled
 import rounds
+import share
 import state
 import term_notes
+import what_to_do
 from files import broken_to_page, Refusal, told
-from limits import GREATEST_GAMMA, GREATEST_LIMIT, MOST_DRAWS, MOST_NODES, MOST_SETS
+from limits import GREATEST_EACH_GAMMA, GREATEST_GAMMA, GREATEST_LIMIT, MOST_DRAWS, MOST_NODES, MOST_SETS
 from names import Names
 from program import TOP, Program
 from texts import listed, millionths, ordinal, plural, shown
@@ -30,9 +32,11 @@ HELP = os.path.join(TOP, "docs", "help", "show.txt")
 BUDGETS = {"--nodes": MOST_NODES, "--sets": MOST_SETS}
 NUMBERS = {**BUDGETS, "--draws": MOST_DRAWS, "--limit": GREATEST_LIMIT, "--gamma": GREATEST_GAMMA}
 POLL = ("--seed", "--draws", "--limit", "--gamma")
-OPTIONS = ("--contest", *BUDGETS, *POLL)
+EACH, BEST = "--each", "--gamma=best"  # of a poll that looks after each draw; with it gamma may be fitted to each margin
+OPTIONS = ("--contest", *BUDGETS, *POLL, EACH)
 UNWRITTEN = Refusal(8, "show: the page could not be written\n")
 MOST_LISTED = 100
+BEFORE = "SESSION"  # for the session so far, among the words that the page says the program was asked with
 POLLED = ("manifest", "assertions", "seen")
 UNCOUNTED = re.compile("no: contest differs|no: winner is |no: assertion [0-9]+ has |tie")  # the margins may be others
 
@@ -51,12 +55,14 @@ def words_of(words):
             if name not in OPTIONS:
                 raise told(f"no such option: {name}; see ./raire help show")
             if name in options:
-                raise told(f"{name} stands twice")
-            if not has_value and rest and not rest[0].startswith("-"):
+                raise told(f"{name} is given twice")
+            if name == EACH and has_value:
+                raise told(f"{EACH} has no value")
+            if name != EACH and not has_value and rest and not rest[0].startswith("-"):
                 value = rest.pop(0)
-            options[name] = value
+            options[name] = name if name == EACH else value
     if not paths:
-        raise told("no files; ./raire help show tells what they may be")
+        raise told("no files; ./raire help show lists what they may be")
     if not all(paths):
         raise told("a file has no name")
     see_values(options)
@@ -66,16 +72,19 @@ def words_of(words):
 def see_values(options):
     for name, value in options.items():
         if not value:
-            raise told(f"{name} wants a value")
+            raise told(f"{name} needs a value")
     if not plain.is_id(options.get("--contest", "1")):
-        raise told("--contest wants the id of a contest")
+        raise told("--contest needs the id of a contest")
     if not plain_audit.is_seed(options.get("--seed", "1")):
-        raise told("--seed wants 1 to 64 characters from space to ~")
-    for name, most in NUMBERS.items():
+        raise told("--seed needs 1 to 64 characters from space to ~")
+    greatest = {**NUMBERS, "--gamma": GREATEST_EACH_GAMMA} if EACH in options else NUMBERS
+    for name, most in greatest.items():
+        if EACH in options and f"{name}={options.get(name)}" == BEST:
+            continue
         if plain_audit.number_in(options.get(name, "1"), 1, most) is None:
-            raise told(f"{name} wants a number from 1 to {most}")
+            raise told(f"{name} needs a number from 1 to {most}")
     if BUDGETS.keys() <= options.keys():
-        raise told("--sets stands in place of --nodes: give one of them")
+        raise told("--sets takes the place of --nodes: give one of them")
 
 
 def see_output(paths):
@@ -275,7 +284,7 @@ class Page:
 
     def is_of_sample(self):
         """The options are those of a sample: a poll's, or those of all contests of a ballot file."""
-        return not self.options.keys().isdisjoint(POLL)
+        return not self.options.keys().isdisjoint((*POLL, EACH))
 
     def is_county(self):
         return self.has_terms() and self.has(*county.KINDS) and not {"assertions", "session"} & set(self.files)
@@ -287,7 +296,7 @@ class Page:
         """The poll, by the program: all draws anew."""
         if not self.is_poll():
             return
-        words = [f"{name}={self.options[name]}" for name in POLL if name in self.options]
+        words = [f"{name}={self.options[name]}" for name in POLL if name in self.options] + [EACH] * (EACH in self.options)
         status, text = self.program.must_run("poll", [self.path(kind) for kind in POLLED], *words, *self.budget_words())
         poll = {**polled.poll_of(status, text), "seed": self.options["--seed"]}
         if status in polled.COUNTED:
@@ -326,15 +335,25 @@ class Page:
     def replay_rounds(self, text, paths):
         session = self.parts["session"]
         with files.Scratch("session.json") as scratch:
-            for done in session["rounds"]:
+            for number, done in enumerate(session["rounds"], 1):
                 scratch.write(text)
-                words = [scratch.path, *paths, self.path("seen")]
-                _, text = self.program.must_run(self.audit_commands()[1], words, f"--draws={done['draws']}", *self.budget_words(), is_shown=False)
+                command, files_after, options = self.audit_commands()[1], [*paths, self.path("seen")], [f"--draws={done['draws']}", *self.budget_words()]
+                status, text = self.program.must_run(command, [scratch.path, *files_after], *options, is_shown=False)
+                self.program.tell(status, command, [BEFORE, *files_after], *options)
+                self.see_round(number, done, plain_audit.session_of(text.encode()))
         if text != plain_audit.session_text(session):
             raise told(f"{self.path('seen')} doesn't give the rounds of {self.path('session')}")
         if session["rounds"]:
             self.judged.add("seen")
             self.parts["is_replayed"] = text.encode() == self.files["session"].data
+
+    def see_round(self, number, done, made):
+        """A round as the program makes it now has to have the counts of the session."""
+        counts = made["rounds"][-1]["counts"] if made and made["rounds"] else done["counts"]
+        for j, (mine, had) in enumerate(zip(counts, done["counts"]), 1):
+            if mine != had:
+                both = f"assertion {j} has the counts {shown_counts(mine)}, and the session has {shown_counts(had)}"
+                raise told(f"{self.path('seen')} doesn't give round {number} of {self.path('session')}: {both}")
 
     def candidates(self):
         """The candidates that a seen file may name, where another file tells them."""
@@ -446,7 +465,7 @@ class Page:
             name = next(name for name in BUDGETS if name in self.options)
             raise told(f"{name} is the budget of a check: give a ballot file and an assertion file")
         if "--contest" in self.options and not {"ballots", "assertions", "session"} & set(self.files):
-            raise told("--contest wants a file that is about a contest")
+            raise told("--contest needs a file that is about a contest")
         is_of_session = self.has("session") and self.names.all.has_contests
         if self.has("names") and not is_of_session and not {"ballots", "assertions"} & set(self.files):
             raise told(f"{self.path('names')} names candidates: give a ballot file or an assertion file too")
@@ -484,6 +503,10 @@ class Page:
         self.make_claims()
 
 
+def shown_counts(counts):
+    return " ".join(map(str, counts))
+
+
 def in_words(claim, first, is_polled):
     """What an assertion says, in two parts: the claim, and the votes it rests on or, of a poll, the cards that speak for it and against it."""
     w, l, margin = claim["winner"], claim["loser"], claim["margin"]
@@ -513,7 +536,8 @@ def filled(page):
     drawn = rounds_drawn(page.parts)
     return made.get_template("page.html").render(
         page.parts, files=page.files, judged=page.judged, notes=page.notes, asked=page.program.asked, program=page.program.told(),
-        chart=audit.chart(session, [row["number"] for row in page.parts["listed"]]) if session else None, title=title(page), most_counted=orders.MOST_COUNTED, most_draws=MOST_DRAWS, most_sets=MOST_SETS,
+        chart=audit.chart(session, [row["number"] for row in page.parts["listed"]]) if session else None, title=title(page),
+        most_counted=orders.MOST_COUNTED, most_draws=MOST_DRAWS, most_sets=MOST_SETS,
         states=state.states(page.parts), scale=rounds.scale_of(drawn) if drawn else None, names=page.names.by_id,
     )
 
@@ -576,8 +600,10 @@ def page_of(words):
 
 def main(words):
     try:
-        put(page_of(words))
+        with share.shown(["show", *words]):
+            page = page_of(words)
+        put(page)
     except Refusal as refusal:
-        sys.stderr.write(refusal.text)
+        sys.stderr.write(what_to_do.said("show", refusal.status, refusal.text))
         return refusal.status
     return 0

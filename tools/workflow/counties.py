@@ -52,9 +52,9 @@ class Contest(NamedTuple):
         return self.given("ballots.raire")
 
     def manifest(self, top):
-        """Of its own batches, if there is such a file; else the county's."""
+        """Of its own batches, if there is such a file; else the county's, as it is where one sample is of all its contests."""
         own = self.given(name_of(self.id), "manifest.csv")
-        return own if os.path.exists(os.path.join(top, own)) else self.given("manifest.csv")
+        return own if self.terms.audit != "contests" and os.path.exists(os.path.join(top, own)) else self.given("manifest.csv")
 
     def looks(self, top):
         return looks_of(top, self.given(name_of(self.id)), self.terms.draws)
@@ -93,6 +93,13 @@ def looks_of(top, folder, draws):
     return looks
 
 
+def seen_in(top, folder):
+    """The files in a folder whose names say that they are of cards that were read."""
+    full = os.path.join(top, folder)
+    names = sorted(os.listdir(full)) if os.path.isdir(full) else []
+    return [os.path.join(folder, name) for name in names if re.fullmatch(r"seen.*\.csv", name, re.ASCII | re.IGNORECASE)]
+
+
 def contests_of(path):
     """Of each contest its id and the number of its candidates, or None where the program will refuse the head of the file."""
     try:
@@ -101,7 +108,9 @@ def contests_of(path):
                 file.seek(0)
                 try:
                     head = list(itertools.islice(plain_audit.numbered(file.read(size)), MOST_CONTESTS + 1))
-                    return {name: len(ids) for name, (ids, _) in plain_audit.contest_records(head[:-1] if size > 0 and len(head) <= MOST_CONTESTS else head).items()}
+                    if size > 0 and len(head) <= MOST_CONTESTS:
+                        head.pop()  # it may be cut off
+                    return {name: len(ids) for name, (ids, _) in plain_audit.contest_records(head).items()}
                 except plain_audit.Broken:
                     continue
     except OSError:
@@ -117,15 +126,19 @@ def read(top):
         raise Refusal(1, f"state: {os.path.join(top, 'counties')}: {fault.strerror}\n") from None
     bad = [name for name in names if not re.fullmatch(r"[^\x00-\x1f\\\udc80-\udcff]+", name)]
     if bad or not names:
-        raise Refusal(1, f"state: {os.path.join(top, 'counties')}: " + (f"the name {ascii(bad[0])} has a letter that no county has\n" if bad else "there is no county\n"))
+        told = f"the name {ascii(bad[0])} has a letter that no county has" if bad else "there is no county"
+        raise Refusal(1, f"state: {os.path.join(top, 'counties')}: {told}\n")
     rows = table.read(top)
     found = {name: contests_of(os.path.join(top, "counties", name, "ballots.raire")) for name in names}
     rows.see_named(found)
-    return [
-        County(name, rows.of(name), [Contest(name, id, size, rows.of(name, id)) for id, size in (found[name] or {}).items() if rows.of(name, id).audit != "skip"], found[name] is not None)
-        for name in names
-        if rows.of(name).audit != "skip"
-    ]
+    counties = [county_in(rows, name, contests) for name, contests in found.items()]
+    return [county for county in counties if county.terms.audit != "skip"]
+
+
+def county_in(rows, name, contests):
+    """A county by the table's rows; `contests` has the numbers of their candidates, or is None where its file can't be read."""
+    each = [Contest(name, id, size, rows.of(name, id)) for id, size in (contests or {}).items()]
+    return County(name, rows.of(name), [contest for contest in each if contest.terms.audit != "skip"], contests is not None)
 
 
 def batches_of(counties, size):
@@ -175,7 +188,7 @@ def county_of(name, terms, contests, is_read):
 def write_whole(path, data):
     """A file has its name only once it is whole."""
     os.makedirs(os.path.dirname(path), exist_ok=True)
-    part = f"{path}.{os.getpid()}.part"
+    part = f"{path}.{os.uname().nodename}.{os.getpid()}.part"  # two nodes may have processes of one number
     with open(part, "wb") as file:
         file.write(data)
     os.replace(part, path)

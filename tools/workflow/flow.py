@@ -3,6 +3,7 @@ import contextlib
 import fcntl
 import os
 import shutil
+import signal
 import subprocess
 import sys
 import time
@@ -12,6 +13,7 @@ import runs
 import steps
 from ask import Refusal, TOP
 from counties import MADE, Plan, write_whole
+from terms import NAME as TERMS
 from words import ask_for_help, help_of, put, Words
 
 NAME = "state"
@@ -30,6 +32,10 @@ def told(text):
 def say(text):
     sys.stderr.write(f"{NAME}: {text}\n")
     sys.stderr.flush()
+
+
+def number_of(count, one, more=""):
+    return f"{count} {one if count == 1 else more or one + 's'}"
 
 
 def words_of(words):
@@ -75,14 +81,16 @@ def see_engine(with_pages):
 
 @contextlib.contextmanager
 def alone(top):
-    """One run in a folder at a time. The lock ends with the process, however it ends."""
+    """One run in a folder at a time. Snakemake gets the lock, too, so it ends once neither of them runs, however they end."""
     os.makedirs(os.path.join(top, MADE), exist_ok=True)
     with open(os.path.join(top, MADE, ".lock"), "w") as file:
         try:
             fcntl.flock(file, fcntl.LOCK_EX | fcntl.LOCK_NB)
         except BlockingIOError:
-            raise told(f"another run works in {top}") from None
-        yield
+            raise told(f"another run works in {top}; wait until it and its Snakemake have ended") from None
+        except OSError as fault:
+            say(f"{top}: this file system has no locks ({fault.strerror}): see that no other run works here")
+        yield file.fileno()
 
 
 def plan_of(given):
@@ -93,6 +101,19 @@ def plan_of(given):
     found = counties.read(top)
     batches = counties.batches_of(found, int(given.group or CONTESTS_A_JOB))
     return Plan(top, path, digest, version, int(given.seconds or SECONDS_A_RUN), not given.without_pages, batches)
+
+
+def not_read(plan):
+    """Files of readings that no look asks for: their names or places, or the table's draws or audits, may be wrong."""
+    asked = []
+    for county in plan.counties():
+        asked += [(county.terms, county.given(), county.looks(plan.top) if county.one_call() else [])]
+        for contest in county.contests:
+            asked += [(contest.terms, contest.given(counties.name_of(contest.id)), contest.looks(plan.top) if contest.terms.audit == "session" else [])]
+    for terms, folder, looks in asked:
+        if terms.audit in ("contests", "session"):
+            read = [look.seen for look in looks]
+            yield from (f"{path} isn't read: no look of {TERMS} asks for it" for path in counties.seen_in(plan.top, folder) if path not in read)
 
 
 def prepare(plan):
@@ -148,11 +169,16 @@ def count_done(plan):
     return sum(os.path.exists(steps.done(plan, step, batch)) for batch in plan.batches for step in steps.names(plan))
 
 
-def run_jobs(plan, words, left):
-    """Has Snakemake run the jobs, and tells after each tenth how many are done."""
+def send(group, number):
+    with contextlib.suppress(ProcessLookupError):
+        os.killpg(group, number)
+
+
+def run_jobs(plan, words, left, lock):
+    """Has Snakemake run the jobs, and says after each tenth how many are done. No process of a job is left on this machine."""
     log = os.path.join(plan.top, MADE, "snakemake.log")
     start, before, shown = time.monotonic(), count_done(plan), 0
-    with open(log, "w") as file, subprocess.Popen(words, stdin=subprocess.DEVNULL, stdout=file, stderr=file) as ran:
+    with open(log, "w") as file, subprocess.Popen(words, stdin=subprocess.DEVNULL, stdout=file, stderr=file, pass_fds=[lock], process_group=0) as ran:
         try:
             while ran.poll() is None:
                 with contextlib.suppress(subprocess.TimeoutExpired):
@@ -160,10 +186,13 @@ def run_jobs(plan, words, left):
                 made = count_done(plan) - before
                 if made * 10 // left > shown:
                     shown = made * 10 // left
-                    say(f"{made} of {left} jobs done after {round(time.monotonic() - start)} seconds")
+                    say(f"{made} of {number_of(left, 'job')} done after {number_of(round(time.monotonic() - start), 'second')}")
         except KeyboardInterrupt:
-            ran.wait()  # it got the signal too, and ends its jobs
-            raise told("stopped; run it again, and it makes what is missing") from None
+            send(ran.pid, signal.SIGINT)  # it ends its jobs, those of a cluster too
+            ran.wait()
+            raise
+        finally:
+            send(ran.pid, signal.SIGKILL)
     return ran.returncode, log
 
 
@@ -179,15 +208,18 @@ def failures(plan):
 
 
 def by_contest(plan, lines):
+    """The line of each county and contest. One name may begin as another does: the longest is meant."""
+    names = {county.name: (county.name, "") for county in plan.counties()}
+    names.update({contest.name(): (county.name, contest.id) for county in plan.counties() for contest in county.contests})
     found = {}
-    for county in plan.counties():
-        found.update({(county.name, ""): line for line in lines if line.startswith(f"{county.name}: ")})
-        found.update({(county.name, contest.id): line for contest in county.contests for line in lines if line.startswith(f"{contest.name()}: ")})
+    for line in lines:
+        fitting = [line[:at] for at in range(len(line)) if line[at : at + 2] == ": " and line[:at] in names]
+        found.update({names[name]: line for name in fitting[-1:]})
     return found
 
 
 def sum_up(plan, lines):
-    """The summary; and where nothing failed, what an earlier run made of other contests is taken away."""
+    """The summary; and where every step is done, what an earlier run made of other contests is taken away."""
     from summary import Summary
 
     summary = Summary(plan, by_contest(plan, lines))
@@ -195,7 +227,7 @@ def sum_up(plan, lines):
     for name, data in made.items():
         write_whole(os.path.join(plan.top, MADE, name), data)
         summary.outputs[os.path.join(MADE, name)] = counties.digest_of(data)
-    if not lines:
+    if summary.is_done():
         for path in list(summary.left_over()):
             os.remove(os.path.join(plan.top, path))
     write_whole(os.path.join(plan.top, MADE, "digests"), summary.digests())
@@ -204,16 +236,24 @@ def sum_up(plan, lines):
 
 def run(given, further):
     see_engine(not given.without_pages)
-    top = os.path.abspath(given.folder)
-    if not os.path.isdir(os.path.join(top, "counties")):
+    if not os.path.isdir(os.path.join(given.folder, "counties")):
         raise told(f"{given.folder} has no folder counties")
-    with alone(top):
+    try:
+        return run_in(os.path.abspath(given.folder), given, further)
+    except OSError as fault:
+        raise Refusal(8, f"{NAME}: {fault.filename or os.path.join(given.folder, MADE)}: {fault.strerror}\n") from None
+
+
+def run_in(top, given, further):
+    with alone(top) as lock:
         plan = plan_of(given)
+        plan.write(os.path.join(top, MADE, counties.PLAN))  # a job of an earlier plan that still runs somewhere stops
         left = prepare(plan)
-        plan.write(os.path.join(top, MADE, counties.PLAN))
+        for line in not_read(plan):
+            say(line)
         contests = sum(len(county.contests) for county in plan.counties())
-        say(f"{contests} contests of {len(plan.counties())} counties; {left} jobs to do")
-        status, log = run_jobs(plan, command(plan, given, further), left) if left else (0, "")
+        say(f"{number_of(contests, 'contest')} of {number_of(len(plan.counties()), 'county', 'counties')}; {number_of(left, 'job')} to do")
+        status, log = run_jobs(plan, command(plan, given, further), left, lock) if left else (0, "")
         lines = failures(plan)
         summary = sum_up(plan, lines)
         for line in lines:
@@ -224,10 +264,13 @@ def run(given, further):
             say(f"{SNAKEMAKE} ended with status {status}; all that it said is in {log}")
         counts = ", ".join(f"{count} {state}" for state, count in summary.counts().items())
         put(NAME, f"{counts}\n{os.path.join(given.folder, MADE, 'summary.csv')}\n")
-        return FAILED if status or lines else 0
+        return 0 if summary.is_done() and not status else FAILED
 
 
 def main(words):
+    for number in (signal.SIGTERM, signal.SIGHUP):
+        if signal.getsignal(number) == signal.SIG_DFL:
+            signal.signal(number, signal.default_int_handler)
     try:
         if ask_for_help(words):
             put(NAME, help_of(NAME))
@@ -236,3 +279,6 @@ def main(words):
     except Refusal as refusal:
         sys.stderr.write(refusal.text)
         return refusal.status
+    except KeyboardInterrupt:
+        say("stopped; run it again, and it makes what is missing")
+        return FAILED

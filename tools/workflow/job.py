@@ -10,19 +10,43 @@ from counties import Plan, write_whole  # noqa: E402
 from runs import Failed  # noqa: E402
 
 
-def main(path, step, batch):
-    plan, lines = Plan.read(path), []
-    for does, who, runs in steps.each(plan, step, batch):
+def identity(path):
+    stat = os.stat(path)
+    return stat.st_ino, stat.st_mtime_ns
+
+
+class Job:
+    def __init__(self, path):
+        self.path, self.identity = path, identity(path)
+        self.plan, self.failed, self.lines = Plan.read(path), set(), []
+
+    def do(self, step, batch):
+        """The step, for each county and contest of which no earlier step failed."""
+        for does, who, runs in steps.each(self.plan, step, batch):
+            if identity(self.path) != self.identity:
+                sys.exit("job.py: a later run has another plan")
+            if runs.what not in self.failed:
+                self.attempt(does, who, runs)
+
+    def attempt(self, does, who, runs):
         try:
             does(who, runs)
         except Failed as failed:
-            lines.append(f"{failed}\n")
-    if lines:
-        write_whole(steps.failures(plan, step, batch), "".join(lines).encode(errors="replace"))
-        sys.stderr.writelines(lines)
-        return 1
-    write_whole(steps.done(plan, step, batch), b"")
-    return 0
+            self.failed.add(runs.what)
+            self.lines.append(f"{failed}\n")
+
+
+def main(path, step, batch):
+    job = Job(path)
+    job.do(step, batch)
+    if not job.failed:
+        write_whole(steps.done(job.plan, step, batch), b"")
+        return 0
+    for later in steps.later(job.plan, step):  # Snakemake doesn't begin these jobs, and the other contests of the batch need nothing of what failed
+        job.do(later, batch)
+    write_whole(steps.failures(job.plan, step, batch), "".join(job.lines).encode(errors="replace"))
+    sys.stderr.writelines(job.lines)
+    return 1
 
 
 if __name__ == "__main__":

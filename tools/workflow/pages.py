@@ -46,17 +46,17 @@ def of_contest(contest, runs):
     files, budget = [contest.ballots()], []
     if file:
         files.append(file.file)
-        budget = [file.budget] if steps.is_by_sets(file.budget) else []
+        budget = [file.budget] if file.budget != steps.NODES else []  # which is the default of a page, too
         files += [contest.manifest(runs.plan.top)] if terms.audit in ("contests", "session") else []
-    session, rounds = file and steps.opened(contest, runs), steps.rounds(contest, runs)
-    if session:
+    session, rounds = file and steps.opened(contest, runs), [(look, ran) for look, ran in steps.rounds(contest, runs) if ran.file]
+    if session and session.file:
         files += [rounds[-1][1].file, rounds[-1][0].seen] if rounds else [session.file]
     return made(runs, [steps.of(contest), *budget], files, contest.made("page.html"))
 
 
 def of_county(county, runs):
     """Of a county whose contests are audited by one call: its last look."""
-    terms, looks = county.terms, steps.called(county, runs)
+    terms, looks = county.terms, list(steps.called(county, runs))
     if not looks:
         return None
     look = looks[-1][0]

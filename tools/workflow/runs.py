@@ -2,6 +2,7 @@
 import hashlib
 import json
 import os
+import signal
 import subprocess
 import sys
 from typing import NamedTuple
@@ -9,8 +10,8 @@ from typing import NamedTuple
 from counties import digest_of, MADE, write_whole
 
 TOOLS = os.path.dirname(os.path.dirname(os.path.abspath(__file__)))
-RESULTS = (0, 3, 4, 5, 6, 10)  # each other status is a failure
 HINT_SECONDS = 30
+SILENT = {8: "an output could not be written", -signal.SIGKILL: "something killed it"}  # of these the program prints no line
 
 
 class Failed(Exception):
@@ -62,10 +63,11 @@ class Runs:
         except (OSError, ValueError):  # none yet, or no record
             return {}
 
-    def run(self, name, words, files, kept):
-        """The result of a command. `kept` says for a status which file keeps the output; that of another one is kept with the record."""
+    def run(self, name, words, files, kept, further=()):
+        """The result of a command. `kept` says for a status which file keeps the output; those of the `further` statuses are kept with the record. Each
+        other status is a failure."""
         words = [*words, "--", *files]
-        return self.take(name, words, files) or self.keep(name, words, files, self.asked(name, words), kept)
+        return self.take(name, words, files) or self.keep(name, words, files, self.asked(name, words, {*kept, *further}), kept)
 
     def make(self, name, words, files, path, made):
         """A file that `made` gives the bytes of."""
@@ -78,8 +80,8 @@ class Runs:
         return digest_of(json.dumps([words, given, self.plan.digest, said]).encode())
 
     def take(self, name, words, files):
-        entry = self.kept.get(name)
-        if entry and entry["key"] == self.key(words, files) and (not entry["file"] or self.digests.of(entry["file"]) == entry["digest"]):
+        entry, key = self.kept.get(name), self.key(words, files)  # what is read has its digest also where nothing is kept
+        if entry and entry["key"] == key and (not entry["file"] or self.digests.of(entry["file"]) == entry["digest"]):
             self.used[name] = entry
             return Ran(entry["status"], entry["file"], entry["text"])
         if not self.may_run:
@@ -98,23 +100,25 @@ class Runs:
         write_whole(self.path, json.dumps(self.kept, indent=1).encode())
         return Ran(status, file, text)
 
-    def asked(self, name, words):
+    def asked(self, name, words, results):
+        """Status and output of a command, whose status has to be one of the results."""
         try:
             ran = subprocess.run([self.plan.program, *words], cwd=self.plan.top, stdin=subprocess.DEVNULL, capture_output=True, timeout=self.plan.seconds)
         except subprocess.TimeoutExpired:
             raise Failed(f"{self.what}: {name}: stopped after {self.plan.seconds} seconds; give it other nodes or sets, or more --seconds") from None
         except OSError as fault:
             raise Failed(f"{self.what}: {name}: {self.plan.program} doesn't run: {fault.strerror}") from None
-        if ran.returncode not in RESULTS:
+        if ran.returncode not in results:
             raise Failed(f"{self.what}: {name}: status {ran.returncode}: {self.lines(ran, words)}")
         return ran.returncode, ran.stdout
 
     def lines(self, ran, words):
         """The program's line, and the one that ./raire adds."""
-        told = [ran.stderr.decode(errors="replace").strip() or "no line"]
+        told = [ran.stderr.decode(errors="replace").strip() or SILENT.get(ran.returncode, "no line")]
         hint = [sys.executable, "-B", os.path.join(TOOLS, "hints", "hint.py"), self.plan.program, str(ran.returncode), *words]
         try:
-            told.append(subprocess.run(hint, cwd=self.plan.top, stdin=subprocess.DEVNULL, capture_output=True, timeout=HINT_SECONDS).stdout.decode(errors="replace").strip())
+            said = subprocess.run(hint, cwd=self.plan.top, stdin=subprocess.DEVNULL, capture_output=True, timeout=HINT_SECONDS)
+            told.append(said.stdout.decode(errors="replace").strip())
         except (OSError, subprocess.TimeoutExpired):
             pass
         return "; ".join(line for line in told if line)

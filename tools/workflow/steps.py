@@ -7,6 +7,7 @@ from limits import DEFAULT_NODES, MOST_NODES, MOST_SETS
 from runs import Failed
 
 TIE, SPENT, FULL_COUNT, REFUTED, UNCONFIRMED = 3, 4, 5, 6, 10
+SEARCHED = (0, TIE, SPENT, FULL_COUNT)
 NODES, SETS, MORE_NODES = f"--nodes={DEFAULT_NODES}", f"--sets={MOST_SETS}", f"--nodes={MOST_NODES}"
 NEVER_SPENT = 20  # candidates, by sets
 
@@ -51,7 +52,7 @@ def searched(contest, runs):
 
     def run(budget):
         words = ["search", "--workers=1", budget, of(contest), *floor]
-        return runs.run(f"search {budget}", words, [contest.ballots()], {0: contest.made("assertions.json"), TIE: text, FULL_COUNT: text})
+        return runs.run(f"search {budget}", words, [contest.ballots()], {0: contest.made("assertions.json"), TIE: text, FULL_COUNT: text}, [SPENT])
 
     ran, budget = tried(run, budgets(contest))
     return (runs.put_last(text, ran) if ran.status == SPENT else ran), budget
@@ -67,7 +68,7 @@ def checked(contest, runs, file, budget, name="check"):
     text = contest.made(f"{name}.txt")
 
     def run(budget):
-        return runs.run(f"{name} {budget}", ["check", budget, of(contest)], [contest.ballots(), file], {0: text, REFUTED: text})
+        return runs.run(f"{name} {budget}", ["check", budget, of(contest)], [contest.ballots(), file], {0: text, REFUTED: text}, [SPENT])
 
     other = [MORE_NODES] if is_by_sets(budget) else [SETS]
     ran, by = tried(run, [*other, budget])
@@ -75,7 +76,7 @@ def checked(contest, runs, file, budget, name="check"):
 
 
 def published(contest, runs):
-    """The assertion file that the audit is about: trimmed where that is wanted and the budget suffices. None where there is none, or it doesn't hold."""
+    """The assertion file that the audit is about: trimmed where that is wanted and the budget suffices. None where there is none, or no check accepts it."""
     search = found(contest, runs)
     if not search:
         return None
@@ -84,16 +85,20 @@ def published(contest, runs):
         return None
     if contest.terms.trim != "yes":
         return Found(search.file, budget)
-    trim = runs.run(f"trim {budget}", ["trim", budget, of(contest)], [contest.ballots(), search.file], {0: contest.made("trimmed.json")})
+    trim = runs.run(f"trim {budget}", ["trim", budget, of(contest)], [contest.ballots(), search.file], {0: contest.made("trimmed.json")}, [SPENT, REFUTED])
     if trim.status == SPENT:
         return Found(search.file, budget)
     again, by = checked(contest, runs, trim.file, search.budget, "check_of_trimmed") if trim.status == 0 else (trim, budget)
+    if again.status == SPENT:
+        return Found(search.file, budget)
     return Found(trim.file, by) if again.status == 0 else None
 
 
-def is_refuted(contest, runs):
-    """Whether a check or a trim says no to what the search printed."""
-    return found(contest, runs) is not None and published(contest, runs) is None and any(entry.get("status") == REFUTED for entry in runs.used.values())
+def refuted(contest, runs):
+    """The check or trim that says no to what was found, and its answer; nothing where there is none."""
+    published(contest, runs)
+    said = ((name, entry) for name, entry in runs.used.items() if entry.get("status") == REFUTED)
+    return next(((name, running.Ran(REFUTED, entry["file"], entry["text"])) for name, entry in said), None)
 
 
 def limits(terms):
@@ -115,35 +120,41 @@ def sampled(runs, who, manifest, terms):
 
 
 def seen_looks(runs, who):
-    """The looks whose cards were read. None of them may lack the file of an earlier one."""
+    """The looks whose cards were read, one after the other. None of them may lack the file of an earlier one."""
     looks = who.looks(runs.plan.top)
-    seen = [look for look in looks if look.seen]
-    if seen != looks[:len(seen)]:
-        gap = next(look for look in looks if not look.seen)
-        raise Failed(f"{runs.what}: audit: {seen[-1].seen} is there, and no seen_{gap.draws}.csv of the look before it")
-    return seen
+    for at, look in enumerate(looks):
+        if look.seen:
+            yield look
+        elif later := [other for other in looks[at:] if other.seen]:
+            raise Failed(f"{runs.what}: audit: {later[-1].seen} is there, and no seen_{look.draws}.csv of the look before it")
 
 
 def opened(contest, runs):
-    """The session with no round, of a contest that has a session and a seed."""
+    """The session with no round, of a contest that has a session and a seed; or what is said in its place, which no file keeps."""
     terms, file = contest.terms, published(contest, runs)
     if terms.audit != "session" or not terms.seed or not file:
         return None
     words = ["open", file.budget, of(contest), f"--seed={terms.seed}", *limits(terms)]
-    return runs.run("open", words, [contest.ballots(), contest.manifest(runs.plan.top), file.file], {0: contest.made("session.json")})
+    return runs.run("open", words, [contest.ballots(), contest.manifest(runs.plan.top), file.file], {0: contest.made("session.json")}, [SPENT, REFUTED])
 
 
 def rounds(contest, runs):
-    """A round for each look, up to the one that signs the contest off."""
+    """A round for each look, up to the one that signs the contest off, or that the session doesn't go on from."""
     session, made = opened(contest, runs), []
-    for look in seen_looks(runs, contest) if session else []:
+    for look in seen_looks(runs, contest) if session and session.file else []:
         file, path = published(contest, runs), contest.made(f"session_{look.draws}.json")
         files = [session.file, contest.ballots(), contest.manifest(runs.plan.top), file.file, look.seen]
-        session = runs.run(f"audit {look.draws}", ["audit", file.budget, f"--draws={look.draws}"], files, {0: path, UNCONFIRMED: path})
+        session = runs.run(f"audit {look.draws}", ["audit", file.budget, f"--draws={look.draws}"], files, {0: path, UNCONFIRMED: path}, [SPENT, REFUTED])
         made.append((look, session))
-        if session.status == 0:
+        if session.status != UNCONFIRMED:
             break
     return made
+
+
+def halted(contest, runs):
+    """The command of a session that answers by no session, and its answer; nothing where there is none."""
+    asked = [("open", opened(contest, runs)), *((f"audit {look.draws}", ran) for look, ran in rounds(contest, runs))]
+    return next(((name, ran) for name, ran in asked if ran and not ran.file), None)
 
 
 def audited(contest, runs):
@@ -153,23 +164,22 @@ def audited(contest, runs):
 
 
 def called(county, runs):
-    """All contests of a county on one sample: a call for each look whose cards were read."""
-    terms, made = county.terms, []
+    """All contests of a county on one sample: a call for each look whose cards were read, one after the other."""
+    terms = county.terms
     if not county.one_call():
-        return made
+        return
     sampled(runs, county, county.given("manifest.csv"), terms)
     for look in seen_looks(runs, county) if terms.seed else []:
         path = county.made(f"contests_{look.draws}.txt")
         words = ["contests", "--workers=1", f"--seed={terms.seed}", f"--draws={look.draws}", *limits(terms)]
         files = [county.given("ballots.raire"), county.given("manifest.csv"), look.seen]
-        made.append((look, runs.run(f"contests {look.draws}", words, files, {0: path, UNCONFIRMED: path})))
-    return made
+        yield look, runs.run(f"contests {look.draws}", words, files, {0: path, UNCONFIRMED: path})
 
 
 def see_head(county, runs):
     """Of a county whose ballot file has no head that can be read, the program says why."""
     if not county.is_read:
-        runs.asked("search", ["search", "--", county.given("ballots.raire")])
+        runs.asked("search", ["search", "--", county.given("ballots.raire")], SEARCHED)
         raise Failed(f"{runs.what}: the contests of {county.given('ballots.raire')} can't be read")
 
 
@@ -182,7 +192,7 @@ STEPS = {
     "search": Step(searched, see_head),
     "check": Step(published),
     "plan": Step(planned),
-    "audit": Step(audited, called),
+    "audit": Step(audited, lambda county, runs: list(called(county, runs))),
 }
 
 
@@ -196,8 +206,12 @@ def names(plan):
     return [*STEPS, *["page"] * plan.pages]
 
 
+def later(plan, step):
+    return names(plan)[names(plan).index(step) + 1:]
+
+
 def each(plan, step, batch, may_run=True, digests=None):
-    """What a step does, contest by contest, and what failed."""
+    """What a step does, county by county and contest by contest."""
     does = STEPS.get(step) or page_step()
     digests = digests or running.Digests(plan.top)
     for county in plan.batches[batch]:

@@ -1,5 +1,6 @@
 """The summary of a state: a row for each contest, those that need a hand first, and the digests of all files."""
 import collections
+import contextlib
 import csv
 import io
 import json
@@ -13,19 +14,21 @@ from county import blocks_of
 from runs import Digests, Failed, Missing, of_contest, of_county
 from terms import NAME as TERMS
 
+FAILED, SIGNED_OFF = "failed", "signed off"
 STATES = {  # those that need a hand first
-    "failed": "a step failed; the line says why",
+    FAILED: "a step failed; the line says why",
     "refuted": "a check says no to what the search printed: report it",
     "tie": "ties leave open who won",
     "spent": "no budget was enough",
     "full count": "count in full",
     "not signed off": "the last look doesn't confirm every assertion",
     "open": "cards of a look aren't read yet",
-    "planned": "there is no seed yet, or nothing is audited",
-    "signed off": "",
+    "planned": "no seed or draws are given yet, or nothing is audited",
+    SIGNED_OFF: "",
 }
 FIELDS = "county contest state candidates records winner margin assertions planned search check audit draws signed_off why page".split()
 TO_BE_COUNTED = "full count"
+NOT_MADE = "not made: its job was ended; run it again"
 SPENT_IN_CALL = "contests is spent by nodes: give this contest a session of its own"
 
 
@@ -49,11 +52,16 @@ class Row(NamedTuple):
 
 
 class Blocks:
-    """What the looks of a county say of each of its contests."""
+    """What the looks of a county say of each of its contests, up to the one that failed, if one did."""
 
     def __init__(self, county, runs):
         ids = contests_of(os.path.join(runs.plan.top, county.given("ballots.raire"))) or {}  # also those that the table skips
-        self.looks = [(look.draws, dict(zip(ids, blocks_of(runs.text(ran))))) for look, ran in steps.called(county, runs)]
+        self.looks, self.fault = [], None
+        try:
+            for look, ran in steps.called(county, runs):
+                self.looks.append((look.draws, dict(zip(ids, blocks_of(runs.text(ran))))))
+        except (Missing, Failed) as fault:
+            self.fault = fault
 
     def of(self, contest):
         return [(draws, blocks[contest]) for draws, blocks in self.looks if contest in blocks]
@@ -85,13 +93,17 @@ def row_of(contest, county, blocks, runs, has_page):
     row = row._replace(records=file["records"], winner=file["winner"], margin=file["margin"], assertions=len(file["assertions"]))
     check, by = steps.checked(contest, runs, ran.file, budget)
     row = row._replace(check=by)
-    if steps.is_refuted(contest, runs):
-        return row._replace(state="refuted", why=", ".join(runs.text(check).splitlines()))
-    file = steps.published(contest, runs)
+    file, refuted = steps.published(contest, runs), steps.refuted(contest, runs)
     if not file:
-        return row._replace(state="spent", why="the check: " + ", ".join(runs.text(check).splitlines()))
+        name, said = refuted or ("check", check)
+        return stopped(row, name, said, runs)
     row = row._replace(assertions=len(json.loads(runs.read_file(file.file))["assertions"]))
     return judged(row, contest, county, blocks, runs)
+
+
+def stopped(row, name, ran, runs):
+    """The row of a contest that can't be audited as the command of this name answers."""
+    return row._replace(state="spent" if ran.status == steps.SPENT else "refuted", why=f"{name}: " + ", ".join(runs.text(ran).splitlines()))
 
 
 def judged(row, contest, county, blocks, runs):
@@ -99,22 +111,31 @@ def judged(row, contest, county, blocks, runs):
     planned = runs.text(steps.planned(contest, runs)).splitlines()[-1].removeprefix("all: ").removesuffix(" draws")
     draws, signed, why = audit_of(contest, county, blocks, runs)
     row = row._replace(planned=planned, draws=draws, signed_off=signed, why=why)
+    halted = steps.halted(contest, runs)
+    if halted:
+        return stopped(row, *halted, runs)
     if signed:
-        return row._replace(state="signed off")
+        return row._replace(state=SIGNED_OFF)
     if planned == TO_BE_COUNTED:
         return row._replace(state=TO_BE_COUNTED, why="by the plan as many draws as there are cards, or 100,000, aren't enough")
-    if contest.terms.audit in ("contests", "session") and contest.terms.seed:
-        asked = contest.terms.draws
-        state = "open" if not draws or asked and str(asked[-1]) != draws else "not signed off"
-        return row._replace(state=state)
+    asked = contest.terms.draws
+    if contest.terms.audit in ("contests", "session") and contest.terms.seed and asked:
+        return row._replace(state="open" if str(asked[-1]) != draws else "not signed off")
     return row
+
+
+def failed(row, without):
+    """The row of a contest of which something failed. Whoever was signed off before stays so, since draws that were made can't be undone."""
+    if row is None or row.state != SIGNED_OFF:
+        return without
+    return row._replace(page="", why=f"signed off by {row.signed_off} draws; then failed: {without.why}")
 
 
 class Summary:
     """All rows, the files that were read and those that were made."""
 
     def __init__(self, plan, failures):
-        self.plan, self.rows, self.inputs, self.outputs = plan, [], {}, {}
+        self.plan, self.rows, self.inputs, self.outputs, self.has_failed = plan, [], {}, {}, False
         digests = Digests(plan.top)
         self.inputs[TERMS] = digests.of(TERMS)
         for county in plan.counties():
@@ -123,17 +144,16 @@ class Summary:
         self.rows.sort(key=lambda row: (order.index(row.state), row.county, row.contest))
 
     def add_county(self, county, digests, failures):
-        runs, blocks = of_county(self.plan, digests, county, False), None
-        try:
-            blocks = Blocks(county, runs)
-            self.add_page(county, runs)
-        except (Missing, Failed):
-            pass
+        runs = of_county(self.plan, digests, county, False)
+        blocks = Blocks(county, runs)
+        if not blocks.fault:
+            with contextlib.suppress(Missing, Failed):
+                self.add_page(county, runs)
         self.add_files(runs)
         for contest in county.contests:
             self.add_contest(contest, county, blocks, digests, failures)
         if not county.is_read:
-            self.rows.append(Row(county.name, "", "failed", why=failures.get((county.name, ""), "")))
+            self.rows.append(Row(county.name, "", FAILED, why=failures.get((county.name, ""), "")))
 
     def add_page(self, who, runs):
         if self.plan.pages:
@@ -141,16 +161,19 @@ class Summary:
             (does.of_county if hasattr(who, "contests") else does.of_contest)(who, runs)
 
     def add_contest(self, contest, county, blocks, digests, failures):
-        runs = of_contest(self.plan, digests, contest, False)
+        runs, row, fault = of_contest(self.plan, digests, contest, False), None, blocks.fault
         try:
             steps.audited(contest, runs)
-            if county.one_call() and blocks is None:
-                raise Missing(county.name)
-            self.add_page(contest, runs)
-            self.rows.append(row_of(contest, county, blocks, runs, self.plan.pages))
-        except (Missing, Failed) as fault:
-            why = failures.get((county.name, contest.id)) or failures.get((county.name, "")) or (str(fault) if isinstance(fault, Failed) else "not made: another contest of its job failed")
-            self.rows.append(Row(county.name, contest.id, "failed", contest.candidates, why=why))
+            row = row_of(contest, county, blocks, runs, self.plan.pages and not fault)
+            if not fault:
+                self.add_page(contest, runs)
+        except (Missing, Failed) as found:
+            fault = found
+        if fault:
+            why = failures.get((county.name, contest.id)) or failures.get((county.name, "")) or (str(fault) if isinstance(fault, Failed) else NOT_MADE)
+            row = failed(row, Row(county.name, contest.id, FAILED, contest.candidates, why=why))
+            self.has_failed = True
+        self.rows.append(row)
         self.add_files(runs)
 
     def add_files(self, runs):
@@ -161,6 +184,9 @@ class Summary:
         counts = collections.Counter(row.state for row in self.rows)
         return {state: counts[state] for state in STATES if counts[state]}
 
+    def is_done(self):
+        return not self.has_failed and not any(row.state == FAILED for row in self.rows)
+
     def table(self):
         out = io.StringIO()
         writer = csv.writer(out, lineterminator="\n")
@@ -170,9 +196,11 @@ class Summary:
     def page(self):
         import jinja2
 
-        made = jinja2.Environment(loader=jinja2.FileSystemLoader(os.path.dirname(os.path.abspath(__file__))), autoescape=True, trim_blocks=True, lstrip_blocks=True)
+        folder = jinja2.FileSystemLoader(os.path.dirname(os.path.abspath(__file__)))
+        made = jinja2.Environment(loader=folder, autoescape=True, trim_blocks=True, lstrip_blocks=True)
         made.filters["link"] = urllib.parse.quote
-        counties = [(county.name, county.made("page.html").removeprefix(MADE + os.sep)) for county in self.plan.counties() if county.made("page.html") in self.outputs]
+        pages = [(county.name, county.made("page.html")) for county in self.plan.counties()]
+        counties = [(name, path.removeprefix(MADE + os.sep)) for name, path in pages if path in self.outputs]
         return (made.get_template("summary.html.j2").render(rows=self.rows, counts=self.counts(), counties=counties, states=STATES) + "\n").encode()
 
     def digests(self):
@@ -188,4 +216,3 @@ class Summary:
                     path = os.path.relpath(os.path.join(folder, name), self.plan.top)
                     if path not in self.outputs:
                         yield path
-

@@ -7,18 +7,19 @@ use Rattle.irv_base.specs.Names.{Id, is_among, is_same}
 use Rattle.assertion_file.specs.Ids.{number_of, numbers_of}
 use Rattle.assertion_file.specs.Stated.{Entry, entry_in}
 use Rattle.assertion_file.specs.Reading.{judged, are_draws, judged_assertion, is_margin, assertion_with, entry_rules, claim_with, claim_of, ◌>>=◌}
+use Rattle.assertion_file.specs.declared.members.DrawsMember.{DrawsMember}
 use Rattle.assertion_file.specs.declared.fault.FRule.{FRule}
 use Rattle.assertion_file.specs.declared.fault.FRule.TheVariants.{F2, F4, F5, F6}
 use Rattle.assertion_file.proofs.Judged.{err-more, both-hold}
 
-pub claim-none : (ids : List Id) (records : ℕ) (planned : Bool) (value : Data) → entry_in planned value ≡ None → claim_of ids records planned value ≡ Err F2
+pub claim-none : (ids : List Id) (records : ℕ) (asked : DrawsMember) (value : Data) → entry_in asked value ≡ None → claim_of ids records asked value ≡ Err F2
 unfolding claim_of
-claim-none ids records planned value h = ap (λ o. ok_or o F2 >>= λ entry. judged (entry_rules ids records entry) (claim_with ids entry)) h
+claim-none ids records asked value h = ap (λ o. ok_or o F2 >>= λ entry. judged (entry_rules ids records entry) (claim_with ids entry)) h
 
-pub claim-some : (ids : List Id) (records : ℕ) (planned : Bool) (value : Data) (entry : Entry) → entry_in planned value ≡ Some entry →
-    claim_of ids records planned value ≡ judged (entry_rules ids records entry) (claim_with ids entry)
+pub claim-some : (ids : List Id) (records : ℕ) (asked : DrawsMember) (value : Data) (entry : Entry) → entry_in asked value ≡ Some entry →
+    claim_of ids records asked value ≡ judged (entry_rules ids records entry) (claim_with ids entry)
 unfolding claim_of
-claim-some ids records planned value entry h = ap (λ o. ok_or o F2 >>= λ entry. judged (entry_rules ids records entry) (claim_with ids entry)) h
+claim-some ids records asked value entry h = ap (λ o. ok_or o F2 >>= λ entry. judged (entry_rules ids records entry) (claim_with ids entry)) h
 
 pub no_winner : (ids : List Id) (records : ℕ) (entry : Entry) → is_among ids entry.winner ≡ false →
     judged (entry_rules ids records entry) (claim_with ids entry) ≡ Err F4

@@ -20,7 +20,7 @@ use Rattle.assertions.specs.declared.assertion.Assertion.{Assertion}
 use Rattle.assertions.specs.declared.assertion.Assertion.TheVariants.{Neb, Nen}
 use Rattle.assertion_file.specs.Ids.{id_of, ids_of, ids_in}
 use Rattle.assertion_file.specs.Content.{Content, Plan, HasNames, IsDrawCount, IsSound, IsSoundPlan, candidate_count}
-use Rattle.assertion_file.specs.Text.{array_of, assertion_value, claim_value, draws_member, file_members, file_value, members_of, neb_others, nen_others, number_member, ids_value, told_of, version_of, whole_number, assertion_file_text, json_of}
+use Rattle.assertion_file.specs.Text.{array_of, assertion_value, claim_value, draws_member, file_members, file_value, members_of, neb_others, nen_others, number_member, order_member, ids_value, told_of, version_of, whole_number, assertion_file_text, json_of}
 use Rattle.assertion_file.proofs.Exact.{IsExact, ItemsAreExact, MembersAreExact, gathered, has_float-exact}
 use Rattle.irv_base.proofs.NameText.{IsUtf8-name}
 use Rattle.assertion_file.proofs.ReadsBack.{json_of-line}
@@ -112,17 +112,25 @@ plan_number records claims (Some plan) of few h = few plan h
 
 file_is_ordered : (file : Content) → gathered (members_of (file_members file)) no_members ≡ members_of (file_members file)
 unfolding serde_json_on_literals
-file_is_ordered file = by file.plan where
-  by : (plan : Option Plan) →
-      gathered (members_of (file_members (record file { plan = plan }))) no_members ≡ members_of (file_members (record file { plan = plan }))
-  by None = refl
-  by (Some plan) = refl
+file_is_ordered file = by file.order file.plan where
+  by : (order : Option (List ℕ)) (plan : Option Plan) →
+      gathered (members_of (file_members (record file { order = order; plan = plan }))) no_members
+      ≡ members_of (file_members (record file { order = order; plan = plan }))
+  by None None = refl
+  by None (Some plan) = refl
+  by (Some order) None = refl
+  by (Some order) (Some plan) = refl
 
-version_is_few : (plan : Option Plan) → version_of plan ≤ 2
-version_is_few None = omega arith
-version_is_few (Some plan) = omega arith
+version_is_few : (order : Option (List ℕ)) (plan : Option Plan) → version_of order plan ≤ 3
+version_is_few None plan = omega arith
+version_is_few (Some order) None = omega arith
+version_is_few (Some order) (Some plan) = omega arith
 
--- the members of a file, in four parts
+order_is_exact : (ids : List Id) (order : Option (List ℕ)) → list_all is_name ids ≡ true → MembersAreExact (members_of (order_member ids order))
+order_is_exact ids None names = tt
+order_is_exact ids (Some order) names = (refl, ids_are_exact ids order names, tt)
+
+-- the members of a file, in five parts
 abbrev pub list_members : Content → List (List ℕ × Data)
 list_members file =
     (codes "assertions", array_of (map (claim_value file.candidates) (told_of file.plan file.claims))) ∷
@@ -135,12 +143,13 @@ contest_members file = (codes "contest", string file.contest) ∷ number_member 
 abbrev pub limit_members : Content → List (List ℕ × Data)
 limit_members file = number_member (codes "limit") (option_map (λ plan. plan.limit) file.plan)
 
+abbrev pub margin_members : Content → List (List ℕ × Data)
+margin_members file = (codes "margin", whole_number file.margin) ∷ order_member file.candidates file.order
+
 abbrev pub last_members : Content → List (List ℕ × Data)
 last_members file =
-    (codes "margin", whole_number file.margin) ∷
-    (codes "order", ids_value (ids_of file.candidates file.order)) ∷
     (codes "records", whole_number file.records) ∷
-    (codes "version", whole_number (version_of file.plan)) ∷
+    (codes "version", whole_number (version_of file.order file.plan)) ∷
     (codes "winner", string (id_of file.candidates file.winner)) ∷
     []
 
@@ -169,27 +178,27 @@ module _ (file : Content) (sound : IsSound file) (contest : is_name file.contest
     number_is_exact (codes "gamma") _ refl (fits (λ plan. plan.gamma) (λ plan s. let most = s.most_gamma in omega (arith, most))),
   )
 
+  margin_is_exact : MembersAreExact (members_of (margin_members file))
+  margin_is_exact =
+      let few = sound.most_records in
+      let most = sound.margin.most in
+      (refl, omega arith, order_is_exact file.candidates file.order names)
+
   last_are_exact : MembersAreExact (members_of (last_members file))
   last_are_exact =
       let few = sound.most_records in
-      let most = sound.margin.most in
-      let version = version_is_few file.plan in (
-        refl,
-        omega arith,
-        (
-          refl,
-          ids_are_exact file.candidates file.order names,
-          (refl, omega arith, (refl, omega (arith, version), (refl, IsUtf8-id_of file.candidates file.winner names, tt))),
-        ),
-      )
+      let version = version_is_few file.order file.plan in
+      (refl, omega arith, (refl, omega (arith, version), (refl, IsUtf8-id_of file.candidates file.winner names, tt)))
 
   pub file_is_exact : IsExact (file_value file)
   unfolding file_value
   file_is_exact = (
-    append_is_exact (list_members file ++ contest_members file ++ limit_members file) (last_members file)
+    append_is_exact (list_members file ++ contest_members file ++ limit_members file ++ margin_members file) (last_members file)
+        (append_is_exact (list_members file ++ contest_members file ++ limit_members file) (margin_members file)
         (append_is_exact (list_members file ++ contest_members file) (limit_members file)
         (append_is_exact (list_members file) (contest_members file) lists_are_exact contest_is_exact)
         (number_is_exact (codes "limit") _ refl (fits (λ plan. plan.limit) (λ plan s. let most = s.most_limit in omega (arith, most)))))
+        margin_is_exact)
         last_are_exact,
     file_is_ordered file,
   )
@@ -214,22 +223,13 @@ depth-claims ids (one ∷ told) = omega (arith, depth-assertion ids one.1 one.0.
 
 pub depth-file_value : (file : Content) → depth (file_value file) ≤ 127
 unfolding file_value
-depth-file_value file = by file.plan where
-  by : (plan : Option Plan) → depth (file_value (record file { plan = plan })) ≤ 127
-  by None =
-      omega (
-        arith,
-        depth-claims file.candidates (told_of None file.claims),
-        depth-strings file.candidates,
-        depth-strings (ids_of file.candidates file.order),
-      )
-  by (Some plan) =
-      omega (
-        arith,
-        depth-claims file.candidates (told_of (Some plan) file.claims),
-        depth-strings file.candidates,
-        depth-strings (ids_of file.candidates file.order),
-      )
+depth-file_value file = by file.order file.plan where
+  by : (order : Option (List ℕ)) (plan : Option Plan) → depth (file_value (record file { order = order; plan = plan })) ≤ 127
+  by None None = omega (arith, depth-claims file.candidates (told_of None file.claims), depth-strings file.candidates)
+  by None (Some plan) = omega (arith, depth-claims file.candidates (told_of (Some plan) file.claims), depth-strings file.candidates)
+  by (Some order) None = omega (arith, depth-claims file.candidates (told_of None file.claims), depth-strings file.candidates, depth-strings (ids_of file.candidates order))
+  by (Some order) (Some plan) =
+      omega (arith, depth-claims file.candidates (told_of (Some plan) file.claims), depth-strings file.candidates, depth-strings (ids_of file.candidates order))
 
 pub text_reads_back : (file : Content) → IsSound file → HasNames file → json_of (assertion_file_text file) ≡ Some (file_value file)
 text_reads_back file sound names = json_of-line (file_value file) (file_is_exact file sound names.contest names.candidates) (depth-file_value file)

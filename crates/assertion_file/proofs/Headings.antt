@@ -1,6 +1,6 @@
 -- What is said of a file whose own members are there.
 use Rattle.std.proofs.Common.{◌≡◌, ℕ, ◌<◌, ◌≤◌, ◌&&◌, Bool, true, false, List, [], ◌∷◌, ◌++◌, length, Some, None, Ok, Err, refl, sym, ap, ap₂, subst, ◌∙◌}
-use Rattle.std.specs.Prelude.{if◌then◌else◌, map, nat_le, ok_or, Option, Result}
+use Rattle.std.specs.Prelude.{if◌then◌else◌, map, nat_le, ok_or, unwrap_or, Option, Result}
 use Rattle.std.specs.List.{list_all}
 use Rattle.std.specs.Str.{IsUtf8, is_utf8}
 use Rattle.std.proofs.lemmas.Str.{IsUtf8-from_is_utf8, is_utf8-from_IsUtf8}
@@ -10,13 +10,12 @@ use Rattle.serde_json.specs.Read.{read}
 use Rattle.assertions.specs.declared.assertion.Claim.{Claim}
 use Rattle.assertion_file.specs.declared.claims.Planned.{Planned}
 use Rattle.irv_base.specs.Names.{Id, all_differ, is_among, is_name, is_same}
-use Rattle.irv_base.specs.Orders.{is_order}
 use Rattle.irv_base.specs.declared.limits.TheConstants.{FEWEST_CANDIDATES, MOST_CANDIDATES, MOST_RECORDS}
 use Rattle.assertion_file.specs.Content.{IsMargin, Plan}
 use Rattle.file_fault.specs.Refusals.{Refuses}
-use Rattle.assertion_file.specs.Ids.{number_of, numbers_of}
+use Rattle.assertion_file.specs.Ids.{number_of}
 use Rattle.assertion_file.specs.Stated.{Heading, heading_in}
-use Rattle.assertion_file.specs.Reading.{are_candidates, are_terms, assertion_file_of, claim_in, claims_in, content_of, content_with, plan_with, is_margin, is_record_count, is_version, judged, judged_heading, heading_rules, id_rules, named_rules, order_rules, count_rules, located, ◌>>=◌}
+use Rattle.assertion_file.specs.Reading.{are_candidates, are_terms, assertion_file_of, claim_in, claims_in, content_of, content_with, plan_with, is_margin, is_record_count, is_order_if, is_version, order_numbers, judged, judged_heading, heading_rules, id_rules, named_rules, order_rules, count_rules, located, ◌>>=◌}
 use Rattle.assertion_file.specs.declared.fault.FRule.{FRule}
 use Rattle.assertion_file.specs.declared.fault.FRule.TheVariants.{F1, F2, F4, F5, F6}
 use Rattle.file_fault.specs.declared.fault.Fault.{Fault}
@@ -24,7 +23,7 @@ use Rattle.file_fault.specs.declared.fault.Fault.TheVariants.{Refused, Memory}
 use Rattle.irv_base.proofs.Positions.{any-within}
 use Rattle.assertion_file.proofs.Judged.{AllHold, all-hold}
 
-pub refuse : {A : Type 0} (said : Result A FRule) (rule : FRule) (fault : Fault FRule) → said ≡ Err rule → fault ≡ Refused rule 0 → Refuses (located 0 said) fault
+pub refuse : {A R : Type 0} (said : Result A R) (rule : R) (fault : Fault R) → said ≡ Err rule → fault ≡ Refused rule 0 → Refuses (located 0 said) fault
 refuse said rule fault h e = subst (Refuses (located 0 said)) (sym e) (ap (located 0) h)
 
 -- ---- some rules after others
@@ -67,11 +66,16 @@ named-refused heading fault ids r =
 after-named : (heading : Heading) → HasNamed heading → judged_heading heading ≡ judged (order_rules heading ++ count_rules heading) heading
 after-named heading h = after-ids heading h.ids ∙ kept-first (named_rules heading) (order_rules heading ++ count_rules heading) heading heading h.named
 
-pub same_order : (heading : Heading) (names : List Id) (numbers : List ℕ) → names ≡ heading.candidates → numbers ≡ numbers_of names heading.order →
-    is_order (length heading.candidates) (numbers_of heading.candidates heading.order) ≡ is_order (length names) numbers
-same_order heading names numbers same is = sym (ap (is_order (length names)) is ∙ ap (λ ids. is_order (length ids) (numbers_of ids heading.order)) same)
+abbrev pub keeps_order : Heading → Bool
+keeps_order heading = is_order_if (length heading.candidates) (order_numbers heading.candidates heading.order)
 
-pub no_order : (heading : Heading) → HasNamed heading → is_order (length heading.candidates) (numbers_of heading.candidates heading.order) ≡ false →
+pub same_order : (heading : Heading) (names : List Id) (numbers : Option (List ℕ)) → names ≡ heading.candidates →
+    numbers ≡ order_numbers names heading.order →
+    keeps_order heading ≡ is_order_if (length names) numbers
+same_order heading names numbers same is =
+    sym (ap (is_order_if (length names)) is ∙ ap (λ ids. is_order_if (length ids) (order_numbers ids heading.order)) same)
+
+pub no_order : (heading : Heading) → HasNamed heading → keeps_order heading ≡ false →
     judged_heading heading ≡ Err F5
 no_order heading h o = after-named heading h ∙ ap (λ b. judged ((b, F5) ∷ count_rules heading) heading) o
 
@@ -79,7 +83,7 @@ abbrev pub has_counts : Heading → Bool
 has_counts heading =
     is_record_count heading.records && is_margin heading.records heading.margin && are_terms heading.records heading.terms
 
-pub no_counts : (heading : Heading) → HasNamed heading → is_order (length heading.candidates) (numbers_of heading.candidates heading.order) ≡ true →
+pub no_counts : (heading : Heading) → HasNamed heading → keeps_order heading ≡ true →
     has_counts heading ≡ false → judged_heading heading ≡ Err F6
 no_counts heading h o c = after-named heading h ∙ ap (λ b. judged ((b, F5) ∷ count_rules heading) heading) o
     ∙ by (is_record_count heading.records) (is_margin heading.records heading.margin) (are_terms heading.records heading.terms) c where
@@ -89,7 +93,7 @@ no_counts heading h o c = after-named heading h ∙ ap (λ b. judged ((b, F5) �
       by true false d c = refl
       by false b d c = refl
 
-pub all_kept : (heading : Heading) → HasNamed heading → is_order (length heading.candidates) (numbers_of heading.candidates heading.order) ≡ true →
+pub all_kept : (heading : Heading) → HasNamed heading → keeps_order heading ≡ true →
     has_counts heading ≡ true → judged_heading heading ≡ Ok heading
 all_kept heading h o c = after-named heading h ∙ ap (λ b. judged ((b, F5) ∷ count_rules heading) heading) o
     ∙ by (is_record_count heading.records) (is_margin heading.records heading.margin) (are_terms heading.records heading.terms) c where
@@ -105,12 +109,17 @@ pub no_winner : (heading : Heading) → is_among heading.candidates heading.winn
 no_winner heading w = rw w refl
 
 pub not_among : (heading : Heading) → is_among heading.candidates heading.winner ≡ true →
-    list_all (is_among heading.candidates) heading.order ≡ false → judged (named_rules heading) heading ≡ Err F4
+    list_all (is_among heading.candidates) (unwrap_or heading.order []) ≡ false → judged (named_rules heading) heading ≡ Err F4
 not_among heading w o = rw (w, o) refl
 
 pub all_named : (heading : Heading) → is_among heading.candidates heading.winner ≡ true →
-    list_all (is_among heading.candidates) heading.order ≡ true → judged (named_rules heading) heading ≡ Ok heading
+    list_all (is_among heading.candidates) (unwrap_or heading.order []) ≡ true → judged (named_rules heading) heading ≡ Ok heading
 all_named heading w o = rw (w, o) refl
+
+-- of the candidates of an order, if it is this one
+pub of_order : (heading : Heading) (ids order : List Id) (b : Bool) → ids ≡ heading.candidates → heading.order ≡ Some order →
+    list_all (is_among ids) order ≡ b → list_all (is_among heading.candidates) (unwrap_or heading.order []) ≡ b
+of_order heading ids order b same is h = ap₂ (λ ids order. list_all (is_among ids) (unwrap_or order [])) (sym same) is ∙ h
 
 -- ---- rule by rule
 
@@ -122,9 +131,9 @@ pub record HasNames (heading : Heading) : Type 0 where
 pub record HasOrder (heading : Heading) : Type 0 where
   pub names : HasNames heading
   pub winner : is_among heading.candidates heading.winner ≡ true
-  pub order : list_all (is_among heading.candidates) heading.order ≡ true
+  pub order : list_all (is_among heading.candidates) (unwrap_or heading.order []) ≡ true
 
-pub kept : (heading : Heading) → HasOrder heading → is_order (length heading.candidates) (numbers_of heading.candidates heading.order) ≡ true →
+pub kept : (heading : Heading) → HasOrder heading → keeps_order heading ≡ true →
     is_record_count heading.records ≡ true →
     is_margin heading.records heading.margin ≡ true → are_terms heading.records heading.terms ≡ true → judged_heading heading ≡ Ok heading
 unfolding judged_heading
@@ -144,7 +153,7 @@ pub record Sound (heading : Heading) : Type 0 where
   pub most : length heading.candidates ≤ MOST_CANDIDATES
   pub differ : all_differ heading.candidates ≡ true
   pub winner : number_of heading.candidates heading.winner < length heading.candidates
-  pub order : is_order (length heading.candidates) (numbers_of heading.candidates heading.order) ≡ true
+  pub order : keeps_order heading ≡ true
   pub some_records : 1 ≤ heading.records
   pub most_records : heading.records ≤ MOST_RECORDS
   pub margin : IsMargin heading.records heading.margin
@@ -213,9 +222,9 @@ pub refused_claims : (value : Data) (heading : Heading) (fault : Fault FRule) �
 refused_claims value heading (Refused rule at) h k r = content-kept value heading h k ∙ ap (λ said. said >>= λ claims. Ok (content_with heading claims)) r
 refused_claims value heading Memory h k r = tt
 
-pub content-is : (heading : Heading) (planned : List Planned) (contest : Id) (candidates : List Id) (winner : ℕ) (order : List ℕ) (claims : List Claim)
+pub content-is : (heading : Heading) (planned : List Planned) (contest : Id) (candidates : List Id) (winner : ℕ) (order : Option (List ℕ)) (claims : List Claim)
     (plan : Option Plan) → contest ≡ heading.contest → candidates ≡ heading.candidates →
-    winner ≡ number_of heading.candidates heading.winner → order ≡ numbers_of heading.candidates heading.order →
+    winner ≡ number_of heading.candidates heading.winner → order ≡ order_numbers heading.candidates heading.order →
     claims ≡ map claim_in planned → plan ≡ plan_with heading.terms planned →
     record {
       contest = contest;

@@ -1,5 +1,5 @@
 -- What is sent one after the other makes an array or an object.
-use Rattle.std.proofs.Common.{◌≡◌, ℕ, ◌+◌, suc, List, [], ◌∷◌, ◌++◌, length, map, Option, Some, refl, sym, ap, subst, ◌∙◌}
+use Rattle.std.proofs.Common.{◌≡◌, ℕ, ◌+◌, suc, List, [], ◌∷◌, ◌++◌, length, map, Option, Some, refl, sym, ap, ap₂, subst, ◌∙◌}
 use Rattle.std.proofs.lemmas.List.{length-append}
 use Rattle.serde.specs.Event.{Log, Logs, map_begins, map_ends, seq_begins, seq_ends, WritesEach, WritesSeq}
 use Rattle.serde_json.specs.Data.{Data, string}
@@ -8,8 +8,7 @@ use Rattle.serde_json.specs.View.{items_of}
 use Rattle.irv_base.specs.Names.{Id}
 use Rattle.assertion_file.specs.Ids.{id_of, ids_of}
 use Rattle.assertion_file.specs.Sent.{SendsMember, SendsNamed}
-use Rattle.assertion_file.specs.Content.{Content, Plan}
-use Rattle.assertion_file.specs.Text.{array_of, draws_member, file_members, ids_value, members_of, number_member, object_of}
+use Rattle.assertion_file.specs.Text.{array_of, draws_member, ids_value, members_of, number_member, object_of, order_member}
 
 length-items : {X : Type 0} (f : X → Data) (xs : List X) → length xs ≡ items_len (items_of (map f xs))
 length-items f [] = refl
@@ -88,3 +87,8 @@ with_draws_sent draws others n old first mid last new count begun one more ended
 pub members_same : (name : List ℕ) {m n : Option ℕ} (old new : Log) → m ≡ n → WritesEach SendsNamed (number_member name m) old new →
     WritesEach SendsNamed (number_member name n) old new
 members_same name old new same sent = subst (λ number. WritesEach SendsNamed (number_member name number) old new) same sent
+
+-- the member of an order that is the same, by ids that are the same
+pub order_same : {ids more : List Id} {order same : Option (List ℕ)} (old new : Log) → ids ≡ more → order ≡ same →
+    WritesEach SendsNamed (order_member ids order) old new → WritesEach SendsNamed (order_member more same) old new
+order_same old new names orders sent = subst (λ members. WritesEach SendsNamed members old new) (ap₂ order_member names orders) sent

@@ -19,6 +19,7 @@ use Rattle.assertion_file.specs.Ids.{number_of, numbers_of}
 use Rattle.assertion_file.specs.Stated.{Entry, entry_in}
 use Rattle.assertion_file.specs.Reading.{are_draws, assertion_with, claim_in, claim_of, claim_with, claims_from, entry_rules, is_rest, judged, located, ◌>>=◌}
 use Rattle.file_fault.specs.Refusals.{Refusal}
+use Rattle.assertion_file.specs.declared.members.DrawsMember.{DrawsMember}
 use Rattle.assertion_file.specs.declared.fault.FRule.{FRule}
 use Rattle.irv_base.specs.declared.limits.TheConstants.{MOST_DRAWS}
 use Rattle.assertion_file.proofs.Entries.{claim-none, claim-some}
@@ -61,7 +62,7 @@ numbers-below ids names c h m =
     let (id, listed, e) = from_map (number_of ids) c names m in
     subst (λ d. d < length ids) e (any-within (λ other. is_same other id) ids (from_list_all (is_among ids) listed h))
 
-assertion-proper : (ids : List Id) (winner loser : Id) (rest : Option (List Id)) → is_among ids winner ≡ true → is_among ids loser ≡ true →
+pub assertion-proper : (ids : List Id) (winner loser : Id) (rest : Option (List Id)) → is_among ids winner ≡ true → is_among ids loser ≡ true →
     is_same winner loser ≡ false →
     list_all (is_among ids) (unwrap_or rest []) ≡ true → is_rest (number_of ids winner) (number_of ids loser) (option_map (numbers_of ids) rest) ≡ true →
     is_proper (length ids) (assertion_with (number_of ids winner) (number_of ids loser) (option_map (numbers_of ids) rest)) ≡ true
@@ -111,21 +112,21 @@ entry-sound ids records entry claim h =
       draws = draws-are entry.draws draws;
     })
 
-module _ (ids : List Id) (records : ℕ) (planned : Bool) where
-  claim-sound : (value : Data) (claim : Planned) → claim_of ids records planned value ≡ Ok claim → IsSoundPlanned (length ids) records claim
-  claim-sound value claim h = by (entry_in planned value) refl where
-    by : (o : Option Entry) → entry_in planned value ≡ o → IsSoundPlanned (length ids) records claim
-    by None e = let bad = sym (claim-none ids records planned value e) ∙ h in absurd cc
-    by (Some entry) e = entry-sound ids records entry claim (sym (claim-some ids records planned value entry e) ∙ h)
+module _ (ids : List Id) (records : ℕ) (asked : DrawsMember) where
+  claim-sound : (value : Data) (claim : Planned) → claim_of ids records asked value ≡ Ok claim → IsSoundPlanned (length ids) records claim
+  claim-sound value claim h = by (entry_in asked value) refl where
+    by : (o : Option Entry) → entry_in asked value ≡ o → IsSoundPlanned (length ids) records claim
+    by None e = let bad = sym (claim-none ids records asked value e) ∙ h in absurd cc
+    by (Some entry) e = entry-sound ids records entry claim (sym (claim-some ids records asked value entry e) ∙ h)
 
-  pub claims-sound : (at : ℕ) (values : List Data) (claims : List Planned) → claims_from ids records planned at values ≡ Ok claims →
+  pub claims-sound : (at : ℕ) (values : List Data) (claims : List Planned) → claims_from ids records asked at values ≡ Ok claims →
       All (IsSoundPlanned (length ids) records) claims
   claims-sound at [] claims h = let none : [] ≡ claims = cc in
       subst (All (IsSoundPlanned (length ids) records)) none (λ i d within. absurd (omega arith))
   claims-sound at (value ∷ values) claims h =
-      by (claim_of ids records planned value) (claims_from ids records planned (at + 1) values) refl h (λ more e. claims-sound (at + 1) values more e)
+      by (claim_of ids records asked value) (claims_from ids records asked (at + 1) values) refl h (λ more e. claims-sound (at + 1) values more e)
     where
-      by : (r : Result Planned FRule) (o : Result (List Planned) (Refusal FRule)) → claim_of ids records planned value ≡ r →
+      by : (r : Result Planned FRule) (o : Result (List Planned) (Refusal FRule)) → claim_of ids records asked value ≡ r →
           (located at r >>= λ claim. o >>= λ more. Ok (claim ∷ more)) ≡ Ok claims →
           ((more : List Planned) → o ≡ Ok more → All (IsSoundPlanned (length ids) records) more) → All (IsSoundPlanned (length ids) records) claims
       by (Err rule) o e g ih = absurd cc

@@ -1,16 +1,17 @@
 -- What is read of an assertion file keeps the rules of files.
 use Rattle.std.proofs.Common.{◌≡◌, ℕ, true, ◌&&◌, List, length, map, All, Option, None, Some, Result, Ok, Err, refl, sym, ap, subst, ◌∙◌}
-use Rattle.std.specs.Prelude.{ok_or, is_some, nat_le, IfSome}
+use Rattle.std.specs.Prelude.{ok_or, nat_le, IfSome}
 use Rattle.std.proofs.lemmas.Bool.{and_parts, leb-true}
 use Rattle.std.proofs.lemmas.List.{length-map}
 use Rattle.std.proofs.lemmas.List.Elements.{All-map}
+use Rattle.irv_base.specs.Orders.{is_order}
 use Rattle.irv_base.specs.declared.limits.TheConstants.{MOST_CARDS, GREATEST_GAMMA, GREATEST_LIMIT}
 use Rattle.assertion_file.specs.declared.claims.Planned.{Planned}
 use Rattle.assertion_file.specs.declared.members.Terms.{Terms}
 use Rattle.assertion_file.specs.Content.{Content, IsSound, IsSoundClaim, IsSoundPlan, IsDrawCount, HasNames, candidate_count}
-use Rattle.assertion_file.specs.Reading.{are_terms, assertion_file_of, claim_in, claims_in, content_of, content_with, plan_with, heading_rules, judged_heading, located, ◌>>=◌}
+use Rattle.assertion_file.specs.Reading.{are_terms, assertion_file_of, claim_in, claims_in, content_of, content_with, plan_with, heading_rules, is_order_if, judged_heading, located, order_numbers, ◌>>=◌}
 use Rattle.file_fault.specs.Refusals.{Refusal}
-use Rattle.assertion_file.specs.Stated.{Heading, heading_in}
+use Rattle.assertion_file.specs.Stated.{Heading, draws_asked, heading_in}
 use Rattle.assertion_file.specs.Text.{assertion_file_text, json_of}
 use Rattle.assertion_file.specs.declared.fault.FRule.{FRule}
 use Rattle.assertion_file.specs.declared.fault.FRule.TheVariants.{F1}
@@ -27,6 +28,10 @@ ok_is a b e k h = cc
 kept-same : (heading kept : Heading) → judged_heading heading ≡ Ok kept → heading ≡ kept
 unfolding judged_heading
 kept-same heading kept h = (all-hold (heading_rules heading) heading kept h).1
+
+pub order-is : (n : ℕ) (order : Option (List ℕ)) → is_order_if n order ≡ true → IfSome order (λ order. is_order n order ≡ true)
+order-is n None h = tt
+order-is n (Some order) h = h
 
 -- ---- claims and their plan
 
@@ -72,7 +77,7 @@ module _ (value : _) (file : Content) (read : content_of value ≡ Ok file) wher
   with_claims heading kept (Err refusal) c e = absurd cc
   with_claims heading kept (Ok claims) c e =
       let s = sound heading kept in
-      let all = claims-sound heading.candidates heading.records (is_some heading.terms) 1 heading.assertions claims c in
+      let all = claims-sound heading.candidates heading.records (draws_asked heading.version heading.terms) 1 heading.assertions claims c in
       let same : content_with heading claims ≡ file = cc in
       let rules : IsSound (content_with heading claims) = record {
         fewest = s.fewest;
@@ -81,7 +86,7 @@ module _ (value : _) (file : Content) (read : content_of value ≡ Ok file) wher
         some_records = s.some_records;
         most_records = s.most_records;
         winner = s.winner;
-        order = s.order;
+        order = order-is (length heading.candidates) (order_numbers heading.candidates heading.order) s.order;
         margin = s.margin;
         claims = sound-claims heading claims all;
         plan = plan-sound (candidate_count (content_with heading claims)) heading.records heading.terms claims s.terms all;

@@ -7,22 +7,22 @@ use Rattle.irv_base.specs.declared.limits.TheConstants.{FEWEST_CANDIDATES, MOST_
 use Rattle.assertions.specs.Assertions.{is_proper}
 use Rattle.assertions.specs.declared.assertion.Claim.{Claim}
 
--- what an audit takes: the cards of the manifest, gamma in thousandths, the risk limit in millionths, and the draws for each
--- claim, or None where it takes a full count
+-- what an audit takes: the cards of the manifest, gamma in thousandths, the risk limit in millionths, and the draws for each claim, or
+-- None if it takes a full count
 pub record Plan : Type 0 where
   pub cards : ℕ
   pub gamma : ℕ
   pub limit : ℕ
   pub draws : List (Option ℕ)
 
--- a candidate is its place in the list of candidates, from 0; a file of version 1 has no plan
+-- a candidate is its place in the list of candidates, from 0; a file of version 1 has no plan, and one of version 3 has no order
 pub record Content : Type 0 where
   pub contest : Id
   pub candidates : List Id
   pub records : ℕ
   pub winner : ℕ
   pub margin : ℕ
-  pub order : List ℕ
+  pub order : Option (List ℕ)
   pub claims : List Claim
   pub plan : Option Plan
 
@@ -33,12 +33,12 @@ candidate_count file = length file.candidates
 abbrev pub margins_of : Content → List ℕ
 margins_of file = map (λ claim. claim.margin) file.claims
 
--- a margin in votes, where there are so many records
+-- a margin in votes, among this many records
 pub record IsMargin (records margin : ℕ) : Type 0 where
   pub some : 1 ≤ margin
   pub most : margin ≤ records
 
--- about n candidates and so many records
+-- for n candidates and this many records
 pub record IsSoundClaim (n records : ℕ) (claim : Claim) : Type 0 where
   pub proper : IsTrue (is_proper n claim.assertion)
   pub margin : IsMargin records claim.margin
@@ -47,7 +47,7 @@ pub record IsDrawCount (draws : ℕ) : Type 0 where
   pub some : 1 ≤ draws
   pub most : draws ≤ MOST_DRAWS
 
--- for so many records and claims
+-- for this many records and claims
 pub record IsSoundPlan (records claims : ℕ) (plan : Plan) : Type 0 where
   pub some_cards : records ≤ plan.cards
   pub most_cards : plan.cards ≤ MOST_CARDS
@@ -65,7 +65,7 @@ pub record IsSound (file : Content) : Type 0 where
   pub some_records : 1 ≤ file.records
   pub most_records : file.records ≤ MOST_RECORDS
   pub winner : file.winner < candidate_count file
-  pub order : IsTrue (is_order (candidate_count file) file.order)
+  pub order : IfSome file.order (λ order. IsTrue (is_order (candidate_count file) order))
   pub margin : IsMargin file.records file.margin
   pub claims : All (IsSoundClaim (candidate_count file) file.records) file.claims
   pub plan : IfSome file.plan (IsSoundPlan file.records (length file.claims))

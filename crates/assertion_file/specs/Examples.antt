@@ -11,7 +11,7 @@ three_candidates = record {
   records = 12;
   winner = 1;
   margin = 1;
-  order = 1 ∷ 0 ∷ 2 ∷ [];
+  order = Some (1 ∷ 0 ∷ 2 ∷ []);
   claims =
       record { assertion = Neb 1 2; margin = 1 } ∷
       record { assertion = Nen 1 0 3; margin = 2 } ∷
@@ -20,7 +20,7 @@ three_candidates = record {
   plan = None;
 }
 
--- of two candidates, of whom the first has this many votes more than the second, among so many records
+-- for two candidates, of whom the first has this many votes more than the second, among this many records
 abbrev pub led_by : ℕ → ℕ → Content
 led_by margin records = record {
   contest = codes "1";
@@ -28,7 +28,7 @@ led_by margin records = record {
   records = records;
   winner = 0;
   margin = margin;
-  order = 0 ∷ 1 ∷ [];
+  order = Some (0 ∷ 1 ∷ []);
   claims = record { assertion = Neb 0 1; margin = margin } ∷ [];
   plan = None;
 }
@@ -43,6 +43,14 @@ abbrev pub planned : Content
 planned = record (led_by 5 5) {
   plan = Some (record { cards = 5; gamma = 100; limit = 50000; draws = Some 5 ∷ [] });
 }
+
+-- the same three candidates, of whom nothing is said of a best margin
+abbrev pub covered : Content
+covered = record three_candidates { order = None }
+
+-- and with a plan
+abbrev pub covered_and_planned : Content
+covered_and_planned = record planned { order = None }
 
 -- one ballot among a thousand cards: a full count
 abbrev pub full_count : Content

@@ -17,7 +17,7 @@ ids_in ids set = ids_of ids (filter (has set) (candidates (length ids)))
 
 -- ---- back from the ids
 
--- the number of the candidate with that id, or of candidates where there is none
+-- the number of the candidate with that id, or the number of candidates if there is none
 abbrev pub number_of : List Id → Id → ℕ
 number_of ids id = position_or_len (λ other. is_same other id) ids
 

@@ -1,5 +1,5 @@
--- What an assertion file says, or which rule it breaks first, and where.
-use Rattle.std.specs.Prelude.{ℕ, ◌+◌, Bool, true, not, ◌&&◌, ◌||◌, ◌==◌, nat_le, if◌then◌else◌, List, [], ◌∷◌, ◌++◌, length, map, is_some, Option, Some, None, ok_or, option_map, unwrap_or, Result, Ok, Err}
+-- What an assertion file says, or which rule it breaks first, and at which place.
+use Rattle.std.specs.Prelude.{ℕ, ◌+◌, Bool, true, not, ◌&&◌, ◌||◌, ◌==◌, nat_le, if◌then◌else◌, List, [], ◌∷◌, ◌++◌, length, map, Option, Some, None, ok_or, option_map, unwrap_or, Result, Ok, Err}
 use Rattle.std.specs.List.{list_all}
 use Rattle.serde_json.specs.Data.{Data}
 use Rattle.file_fault.specs.Refusals.{Refusal, refused}
@@ -12,13 +12,14 @@ use Rattle.assertions.specs.declared.assertion.Assertion.TheVariants.{Neb, Nen}
 use Rattle.assertions.specs.declared.assertion.Claim.{Claim}
 use Rattle.assertion_file.specs.Content.{Content, Plan}
 use Rattle.assertion_file.specs.Ids.{number_of, numbers_of}
-use Rattle.assertion_file.specs.Stated.{Heading, heading_in, Entry, entry_in}
+use Rattle.assertion_file.specs.Stated.{Heading, heading_in, Entry, draws_asked, entry_in}
 use Rattle.assertion_file.specs.Text.{json_of}
 use Rattle.assertion_file.specs.declared.claims.Planned.{Planned}
+use Rattle.assertion_file.specs.declared.members.DrawsMember.{DrawsMember}
 use Rattle.assertion_file.specs.declared.members.Terms.{Terms}
 use Rattle.assertion_file.specs.declared.fault.FRule.{FRule}
 use Rattle.assertion_file.specs.declared.fault.FRule.TheVariants.{F1, F2, F3, F4, F5, F6}
-use Rattle.assertion_file.specs.declared.print.TheConstants.{VERSION, PLAN_VERSION}
+use Rattle.assertion_file.specs.declared.print.TheConstants.{VERSION, PLAN_VERSION, COVER_VERSION}
 
 infixl 10 ◌>>=◌
 abbrev pub ◌>>=◌ : {A B E : Type 0} → Result A E → (A → Result B E) → Result B E
@@ -26,7 +27,7 @@ abbrev pub ◌>>=◌ : {A B E : Type 0} → Result A E → (A → Result B E) �
 (Err e) >>= more = Err e
 
 -- the value, or the first rule that doesn't hold
-abbrev pub judged : {A : Type 0} → List (Bool × FRule) → A → Result A FRule
+abbrev pub judged : {A R : Type 0} → List (Bool × R) → A → Result A R
 judged [] value = Ok value
 judged (held ∷ more) value = if held.0 then judged more value else Err held.1
 
@@ -44,7 +45,7 @@ is_record_count n = nat_le 1 n && nat_le n MOST_RECORDS
 abbrev pub is_margin : ℕ → ℕ → Bool
 is_margin records margin = nat_le 1 margin && nat_le margin records
 
--- the terms of a plan for so many records; version 1 has none
+-- the terms of a plan for this many records, if there are any
 abbrev pub are_terms : ℕ → Option Terms → Bool
 are_terms records None = true
 are_terms records (Some terms) =
@@ -53,9 +54,9 @@ are_terms records (Some terms) =
     nat_le 1 terms.limit && nat_le terms.limit GREATEST_LIMIT
 
 abbrev pub is_version : ℕ → Bool
-is_version version = (version == VERSION) || (version == PLAN_VERSION)
+is_version version = (version == VERSION) || (version == PLAN_VERSION) || (version == COVER_VERSION)
 
--- of the version, the contest and its candidates
+-- the version, the contest and its candidates
 abbrev pub id_rules : Heading → List (Bool × FRule)
 id_rules heading =
     (is_version heading.version, F3) ∷
@@ -67,12 +68,21 @@ id_rules heading =
 abbrev pub named_rules : Heading → List (Bool × FRule)
 named_rules heading =
     (is_among heading.candidates heading.winner, F4) ∷
-    (list_all (is_among heading.candidates) heading.order, F4) ∷
+    (list_all (is_among heading.candidates) (unwrap_or heading.order []), F4) ∷
     []
+
+-- an order of n candidates, if there is one
+abbrev pub is_order_if : ℕ → Option (List ℕ) → Bool
+is_order_if n None = true
+is_order_if n (Some order) = is_order n order
+
+-- as the numbers of these candidates
+abbrev pub order_numbers : List Id → Option (List Id) → Option (List ℕ)
+order_numbers ids order = option_map (numbers_of ids) order
 
 abbrev pub order_rules : Heading → List (Bool × FRule)
 order_rules heading =
-    (is_order (length heading.candidates) (numbers_of heading.candidates heading.order), F5) ∷
+    (is_order_if (length heading.candidates) (order_numbers heading.candidates heading.order), F5) ∷
     []
 
 abbrev pub count_rules : Heading → List (Bool × FRule)
@@ -140,31 +150,31 @@ claim_with ids entry = record {
   draws = entry.draws;
 }
 
--- planned is whether the file has a plan
-unfoldable pub claim_of : List Id → ℕ → Bool → Data → Result Planned FRule
-claim_of ids records planned value = do
-  entry ← ok_or (entry_in planned value) F2
+unfoldable pub claim_of : List Id → ℕ → DrawsMember → Data → Result Planned FRule
+claim_of ids records asked value = do
+  entry ← ok_or (entry_in asked value) F2
   judged (entry_rules ids records entry) (claim_with ids entry)
 
 -- ---- the file
 
 -- a rule is broken at an assertion, counted from 1, or at 0 by the file's own members
-abbrev pub located : {A : Type 0} → ℕ → Result A FRule → Result A (Refusal FRule)
+abbrev pub located : {A R : Type 0} → ℕ → Result A R → Result A (Refusal R)
 located at (Ok value) = Ok value
 located at (Err rule) = refused rule at
 
 -- the claims of a list of values, the first of which has the number at
-abbrev pub claims_from : List Id → ℕ → Bool → ℕ → List Data → Result (List Planned) (Refusal FRule)
-claims_from ids records planned at [] = Ok []
-claims_from ids records planned at (value ∷ values) = do
-  claim ← located at (claim_of ids records planned value)
-  claims ← claims_from ids records planned (at + 1) values
+abbrev pub claims_from : List Id → ℕ → DrawsMember → ℕ → List Data → Result (List Planned) (Refusal FRule)
+claims_from ids records asked at [] = Ok []
+claims_from ids records asked at (value ∷ values) = do
+  claim ← located at (claim_of ids records asked value)
+  claims ← claims_from ids records asked (at + 1) values
   Ok (claim ∷ claims)
 
 -- those of the file's object
 abbrev pub claims_in : Heading → Result (List Planned) (Refusal FRule)
 claims_in heading =
-    claims_from heading.candidates heading.records (is_some heading.terms) 1 heading.assertions
+    claims_from heading.candidates heading.records (draws_asked heading.version heading.terms) 1
+    heading.assertions
 
 abbrev pub claim_in : Planned → Claim
 claim_in planned = record { assertion = planned.assertion; margin = planned.margin }
@@ -185,7 +195,7 @@ content_with heading claims = record {
   records = heading.records;
   winner = number_of heading.candidates heading.winner;
   margin = heading.margin;
-  order = numbers_of heading.candidates heading.order;
+  order = order_numbers heading.candidates heading.order;
   claims = map claim_in claims;
   plan = plan_with heading.terms claims;
 }

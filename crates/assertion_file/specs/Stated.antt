@@ -1,12 +1,14 @@
 -- What a JSON value states: the members of the file's object, and those of an assertion.
-use Rattle.std.specs.Prelude.{ℕ, List, [], ◌∷◌, map, codes, nat_le, ◌==◌, Bool, if◌then◌else◌, Option, Some, None, is_some, unwrap_or, option_map, option_and_then}
+use Rattle.std.specs.Prelude.{ℕ, List, [], ◌∷◌, map, codes, nat_le, ◌==◌, ◌&&◌, Bool, if◌then◌else◌, Option, Some, None, is_none, is_some, unwrap_or, option_map, option_and_then}
 use Rattle.std.specs.List.{list_all}
 use Rattle.serde_json.specs.Data.{Data, Items, no_items, item}
 use Rattle.serde_json.specs.Find.{get, as_null, as_number, as_str, as_array, as_u64}
 use Rattle.irv_base.specs.Names.{Id, is_same}
 use Rattle.assertion_file.specs.declared.members.TheConstants.{MOST_NUMBER}
+use Rattle.assertion_file.specs.declared.members.DrawsMember.{DrawsMember}
+use Rattle.assertion_file.specs.declared.members.DrawsMember.TheVariants.{Needed, Unread, Absent}
 use Rattle.assertion_file.specs.declared.members.Terms.{Terms}
-use Rattle.assertion_file.specs.declared.print.TheConstants.{PLAN_VERSION}
+use Rattle.assertion_file.specs.declared.print.TheConstants.{PLAN_VERSION, COVER_VERSION}
 
 infixl 10 ◌>>=◌
 abbrev pub ◌>>=◌ : {A B : Type 0} → Option A → (A → Option B) → Option B
@@ -65,15 +67,18 @@ list_in = member_as list
 abbrev pub texts_in : List ℕ → Data → Option (List (List ℕ))
 texts_in = member_as texts
 
+abbrev pub lacks : List ℕ → Data → Bool
+lacks name value = is_none (get name value)
+
 -- ---- the file's object
 
--- the terms of a plan stand in version 2 alone
+-- version 2 has the terms of a plan, version 3 may have them, and it has no order
 pub record Heading : Type 0 where
   pub assertions : List Data
   pub candidates : List Id
   pub contest : Id
   pub margin : ℕ
-  pub order : List Id
+  pub order : Option (List Id)
   pub records : ℕ
   pub terms : Option Terms
   pub version : ℕ
@@ -86,10 +91,27 @@ terms_of value = do
   limit ← number_in (codes "limit") value
   Some (record { cards = cards; gamma = gamma; limit = limit })
 
+-- all of them or none
+abbrev pub terms_or_none : Data → Option (Option Terms)
+terms_or_none value =
+    if lacks (codes "cards") value && lacks (codes "gamma") value && lacks (codes "limit") value
+    then Some None
+    else option_map Some (terms_of value)
+
 -- in another version they aren't looked at
 abbrev pub terms_in : ℕ → Data → Option (Option Terms)
 terms_in version value =
-    if version == PLAN_VERSION then option_map Some (terms_of value) else Some None
+    if version == PLAN_VERSION then option_map Some (terms_of value) else
+    (if version == COVER_VERSION then terms_or_none value else Some None)
+
+-- the value, if it has no member of that name
+abbrev pub none_if_absent : {A : Type 0} → List ℕ → Data → Option (Option A)
+none_if_absent name value = if lacks name value then Some None else None
+
+abbrev pub order_in : ℕ → Data → Option (Option (List Id))
+order_in version value =
+    if version == COVER_VERSION then none_if_absent (codes "order") value else
+    option_map Some (texts_in (codes "order") value)
 
 unfoldable pub heading_in : Data → Option Heading
 heading_in value = do
@@ -97,9 +119,9 @@ heading_in value = do
   candidates ← texts_in (codes "candidates") value
   contest ← text_in (codes "contest") value
   margin ← number_in (codes "margin") value
-  order ← texts_in (codes "order") value
   records ← number_in (codes "records") value
   version ← number_in (codes "version") value
+  order ← order_in version value
   terms ← terms_in version value
   winner ← text_in (codes "winner") value
   Some (record {
@@ -116,7 +138,7 @@ heading_in value = do
 
 -- ---- an assertion
 
--- a NEB has no rest; no draws are planned where the member is null, and in version 1
+-- a NEB has no rest; no draws are planned if the member is null, and if the file has no plan
 pub record Entry : Type 0 where
   pub winner : Id
   pub loser : Id
@@ -130,18 +152,22 @@ rest_in kind value =
     if is_same kind (codes "NEB") then Some None else
     (if is_same kind (codes "NEN") then option_map Some (texts_in (codes "rest") value) else None)
 
--- without a plan they aren't looked at
-abbrev pub draws_in : Bool → Data → Option (Option ℕ)
-draws_in planned value =
-    if planned then member_as number_or_null (codes "draws") value else Some None
+-- a plan has them for each assertion; without one version 1 doesn't look at them, and version 3 has none
+abbrev pub draws_asked : ℕ → Option Terms → DrawsMember
+draws_asked version (Some terms) = Needed
+draws_asked version None = if version == COVER_VERSION then Absent else Unread
 
--- planned is whether the file has a plan
-unfoldable pub entry_in : Bool → Data → Option Entry
-entry_in planned value = do
+abbrev pub draws_in : DrawsMember → Data → Option (Option ℕ)
+draws_in Needed value = member_as number_or_null (codes "draws") value
+draws_in Unread value = Some None
+draws_in Absent value = none_if_absent (codes "draws") value
+
+unfoldable pub entry_in : DrawsMember → Data → Option Entry
+entry_in asked value = do
   kind ← text_in (codes "kind") value
   winner ← text_in (codes "winner") value
   loser ← text_in (codes "loser") value
   margin ← number_in (codes "margin") value
   rest ← rest_in kind value
-  draws ← draws_in planned value
+  draws ← draws_in asked value
   Some (record { winner = winner; loser = loser; margin = margin; rest = rest; draws = draws })

@@ -1,4 +1,4 @@
--- The text of an assertion file, of version 1 and of version 2: one JSON object in compact form, and a line feed.
+-- The text of an assertion file of each version: one JSON object in compact form, and a line feed.
 use Rattle.std.specs.Prelude.{ℕ, List, [], ◌∷◌, ◌++◌, map, zip, codes, Option, Some, None, option_map, if◌then◌else◌}
 use Rattle.std.specs.Str.{is_utf8}
 use Rattle.serde_json.specs.Data.{Data, null, number, unsigned, string, array, object, Members, no_members, member}
@@ -8,7 +8,7 @@ use Rattle.serde_json.specs.Written.{compact_text}
 use Rattle.assertions.specs.declared.assertion.Assertion.{Assertion}
 use Rattle.assertions.specs.declared.assertion.Assertion.TheVariants.{Neb, Nen}
 use Rattle.assertions.specs.declared.assertion.Claim.{Claim}
-use Rattle.assertion_file.specs.declared.print.TheConstants.{VERSION, PLAN_VERSION}
+use Rattle.assertion_file.specs.declared.print.TheConstants.{VERSION, PLAN_VERSION, COVER_VERSION}
 use Rattle.irv_base.specs.Names.{Id}
 use Rattle.assertion_file.specs.Ids.{id_of, ids_of, ids_in}
 use Rattle.assertion_file.specs.Content.{Content, Plan}
@@ -22,14 +22,14 @@ members_of (named ∷ rest) = member named.0 named.1 (members_of rest)
 abbrev pub array_of : List Data → Data
 array_of values = array (items_of values)
 
--- the names have to stand in byte order
+-- the names have to be in byte order
 abbrev pub object_of : List (List ℕ × Data) → Data
 object_of named = object (members_of named)
 
 abbrev pub whole_number : ℕ → Data
 whole_number n = number (unsigned n)
 
--- a member that stands there where there is a number
+-- a member that is there if there is a number
 abbrev pub number_member : List ℕ → Option ℕ → List (List ℕ × Data)
 number_member name None = []
 number_member name (Some n) = (name, whole_number n) ∷ []
@@ -39,7 +39,7 @@ number_member name (Some n) = (name, whole_number n) ∷ []
 abbrev pub ids_value : List Id → Data
 ids_value ids = array_of (map string ids)
 
--- the draws that are planned for an assertion, with null for a full count; version 1 has no such member
+-- the draws that are planned for an assertion, with null for a full count; without a plan there is no such member
 abbrev pub draws_member : Option (Option ℕ) → List (List ℕ × Data)
 draws_member None = []
 draws_member (Some None) = (codes "draws", null) ∷ []
@@ -80,16 +80,23 @@ assertion_value ids draws (Nen w l rest) margin =
 abbrev pub claim_value : List Id → Claim × Option (Option ℕ) → Data
 claim_value ids told = assertion_value ids told.1 told.0.assertion told.0.margin
 
--- each claim with what is told of its draws
+-- each claim with what is printed of its draws
 abbrev pub told_of : Option Plan → List Claim → List (Claim × Option (Option ℕ))
 told_of None claims = map (λ claim. (claim, None)) claims
 told_of (Some plan) claims = map (λ planned. (planned.0, Some planned.1)) (zip claims plan.draws)
 
-abbrev pub version_of : Option Plan → ℕ
-version_of None = VERSION
-version_of (Some plan) = PLAN_VERSION
+-- a file without an order is of version 3, with a plan or without one
+abbrev pub version_of : Option (List ℕ) → Option Plan → ℕ
+version_of None plan = COVER_VERSION
+version_of (Some order) None = VERSION
+version_of (Some order) (Some plan) = PLAN_VERSION
 
--- candidates by their ids, and the order with the first eliminated first
+-- the order by the ids of its candidates, the first eliminated first
+abbrev pub order_member : List Id → Option (List ℕ) → List (List ℕ × Data)
+order_member ids None = []
+order_member ids (Some order) = (codes "order", ids_value (ids_of ids order)) ∷ []
+
+-- candidates by their ids
 abbrev pub file_members : Content → List (List ℕ × Data)
 file_members file =
     (codes "assertions", array_of (map (claim_value file.candidates) (told_of file.plan file.claims))) ∷
@@ -99,9 +106,9 @@ file_members file =
     number_member (codes "gamma") (option_map (λ plan. plan.gamma) file.plan) ++
     number_member (codes "limit") (option_map (λ plan. plan.limit) file.plan) ++
     (codes "margin", whole_number file.margin) ∷
-    (codes "order", ids_value (ids_of file.candidates file.order)) ∷
+    order_member file.candidates file.order ++
     (codes "records", whole_number file.records) ∷
-    (codes "version", whole_number (version_of file.plan)) ∷
+    (codes "version", whole_number (version_of file.order file.plan)) ∷
     (codes "winner", string (id_of file.candidates file.winner)) ∷
     []
 
@@ -118,6 +125,6 @@ assertion_file_text file = compact_text (file_value file) ++ line_feed ∷ []
 
 -- ---- reading
 
--- the value that bytes are, where they are JSON in UTF-8
+-- the value that bytes are, if they are JSON in UTF-8
 abbrev pub json_of : List ℕ → Option Data
 json_of bytes = if is_utf8 bytes then read bytes else None

@@ -8,7 +8,7 @@ ghost use Rattle.assertion_file.specs.Views.{stated_ids};
 
 use crate::fault::{FRule, FileFault};
 use crate::ids::{candidate, set_of};
-use crate::members::{Entry, entry_in};
+use crate::members::{DrawsMember, Entry, entry_in};
 use assertions::Assertion;
 use irv_base::{Candidate, MOST_DRAWS, Name};
 use serde_json::Value;
@@ -22,7 +22,7 @@ pub struct Planned {
     pub draws: Option<u32>,
 }
 
-/// Whether a margin can be one of so many records.
+/// Whether a margin can be one among this many records.
 pub fn is_margin(records: u32, margin: u32) -> bool
     ensures { result ≡ is_margin records margin }
 {
@@ -44,9 +44,9 @@ fn nen(names: &[Name], w: Candidate, l: Candidate, rest: &[Value]) -> Result<Ass
     Ok(Assertion::Nen { w, l, rest })
 }
 
-// The NEB, or the NEN with that rest: F4 if the rest has an unknown id, F5 if it repeats one or lacks the winner or
-// the loser.
-fn assertion(
+/// The NEB, or the NEN with that rest: F4 if the rest has an unknown id, F5 if it repeats one or lacks the winner or
+/// the loser.
+pub fn assertion(
     names: &[Name],
     w: Candidate,
     l: Candidate,
@@ -72,18 +72,23 @@ pub fn are_draws(draws: Option<u32>) -> bool
     }
 }
 
-// The numbers of an assertion, among so many records.
+// The numbers of an assertion, among this many records.
 fn are_counts(records: u32, entry: &Entry<'_>) -> bool
     ensures { result ≡ (is_margin records entry.now.margin && are_draws entry.now.draws) }
 {
     is_margin(records, entry.margin) && are_draws(entry.draws)
 }
 
-fn claim_of(names: &[Name], records: u32, planned: bool, value: &Value) -> Result<Planned, FRule>
+fn claim_of(
+    names: &[Name],
+    records: u32,
+    asked: DrawsMember,
+    value: &Value,
+) -> Result<Planned, FRule>
     requires { length names.now ≤ ROOM }
-    ensures { result ≡ claim_of names.now records planned (view value.now) }
+    ensures { result ≡ claim_of names.now records asked (view value.now) }
 {
-    let Some(entry) = entry_in(planned, value) else {
+    let Some(entry) = entry_in(asked, value) else {
         return Err(FRule::F2);
     };
     let Some(w) = candidate(names, entry.winner) else {
@@ -110,39 +115,39 @@ fn claim_of(names: &[Name], records: u32, planned: bool, value: &Value) -> Resul
 fn claim_at(
     names: &[Name],
     records: u32,
-    planned: bool,
+    asked: DrawsMember,
     at: u64,
     value: &Value,
 ) -> Result<Planned, FileFault>
     requires { length names.now ≤ ROOM }
     ensures read { IfOk result (λ claim.
-        claim_of names.now records planned (view value.now) ≡ Ok claim) }
+        claim_of names.now records asked (view value.now) ≡ Ok claim) }
     ensures refused { IfErr result
-        (Refuses (located at (claim_of names.now records planned (view value.now)))) }
+        (Refuses (located at (claim_of names.now records asked (view value.now)))) }
 {
-    match claim_of(names, records, planned, value) {
+    match claim_of(names, records, asked, value) {
         Ok(claim) => Ok(claim),
         Err(rule) => Err(FileFault::Refused { rule, at }),
     }
 }
 
-/// The assertions in order, or the first of them that breaks a rule. Their draws are looked at where the file has a plan.
+/// The assertions in order, or the first of them that breaks a rule.
 pub fn claims(
     alloc: Global,
     names: &[Name],
     records: u32,
-    planned: bool,
+    asked: DrawsMember,
     values: &[Value],
 ) -> Result<Vec<Planned>, FileFault>
     requires { length names.now ≤ ROOM }
     ensures read { IfOk result (λ claims.
-        claims_from names.now records planned 1 (map view values.now) ≡ Ok claims.items) }
+        claims_from names.now records asked 1 (map view values.now) ≡ Ok claims.items) }
     ensures refused { IfErr result
-        (Refuses (claims_from names.now records planned 1 (map view values.now))) }
+        (Refuses (claims_from names.now records asked 1 (map view values.now))) }
 {
     let mut claims = Vec::new(alloc);
     for (i, value) in values.iter().enumerate() {
-        let read = claim_at(names, records, planned, i as u64 + 1, value)?;
+        let read = claim_at(names, records, asked, i as u64 + 1, value)?;
         claims.push(Planned {
             assertion: read.assertion,
             margin: read.margin,

@@ -65,7 +65,7 @@ impl<'a> ClaimsLeft<'a> {
         Some(number)
     }
 
-    // The candidate whose id comes next, in quotes, and most likely stands at this place of the list or soon after.
+    // The candidate whose id comes next, in quotes, and most likely is at this place of the list or soon after.
     fn candidate(&mut self, from: usize) -> Option<Candidate> {
         self.pass(b"\"")?;
         let end = self.left.iter().position(|b| *b == b'"')?;
@@ -104,7 +104,7 @@ impl<'a> ClaimsLeft<'a> {
         Some(draws)
     }
 
-    // Whether the claim is a NEB, or else a NEN.
+    // Whether the claim is a NEB; otherwise it is a NEN.
     fn is_neb(&mut self) -> Option<bool> {
         if self.pass(b"\"kind\":\"NEB\"").is_some() {
             return Some(true);
@@ -138,7 +138,7 @@ impl<'a> ClaimsLeft<'a> {
         Some((assertion, margin))
     }
 
-    /// The claim that comes next, and the draws that are planned for it, where the file has a plan.
+    /// The claim that comes next, and the draws that are planned for it, if the file has a plan.
     pub fn claim(&mut self, is_planned: bool) -> Option<Planned> {
         self.pass(b"{")?;
         let draws = if is_planned { self.draws()? } else { None };

@@ -25,11 +25,11 @@ pub struct Parts {
     pub winner: Candidate,
     /// The smallest margin of the assertions, in votes.
     pub margin: u32,
-    /// The order that is the hardest to refute, first eliminated first.
-    pub order: Order,
+    /// The order that is the hardest to refute, first eliminated first. A file of version 3 says nothing of one.
+    pub order: Option<Order>,
     /// The assertions and their margins, in votes.
     pub claims: Vec<Claim>,
-    /// What an audit of the assertions takes. A file of version 1 doesn't say it.
+    /// What an audit of the assertions takes. A file of version 1 doesn't say it, and one of version 3 need not.
     pub plan: Option<PlanFacts>,
 }
 
@@ -50,16 +50,15 @@ impl Model for Parts {
     } };
 }
 
-/// What an assertion file says of a contest: its winner, the assertions that are to be confirmed with their margins,
-/// and an order that shows why no larger margin is to be had. A file of version 2 has a plan too: the draws that confirm each
-/// assertion where no card shows a discrepancy.
+/// What an assertion file says of a contest: its winner, the assertions that are to be confirmed with their margins, and an order that
+/// shows why there is no larger margin. A file of version 2 also has a plan: the draws that confirm each assertion if no card shows a
+/// discrepancy. A file of version 3 has no order, since it doesn't say that its margin is the best one. It may have a plan.
 ///
-/// There are `FEWEST_CANDIDATES` to `MOST_CANDIDATES` candidates, all different, and 1 to `MOST_RECORDS` ballot
-/// records. A candidate is its place in the list of candidates, from 0. The order is one of all candidates, each
-/// assertion is a proper one among them, and each margin, the file's and those of the claims, is 1 to the number of
-/// records. A plan is for at least as many cards as there are records and at most `MOST_CARDS`, with a gamma of 1 to
-/// `GREATEST_GAMMA` and a limit of 1 to `GREATEST_LIMIT`, and has for each claim 1 to `MOST_DRAWS` draws, or none. That the file
-/// holds of any ballots isn't said: a checker finds that out.
+/// There are `FEWEST_CANDIDATES` to `MOST_CANDIDATES` candidates, all different, and 1 to `MOST_RECORDS` ballot records. A candidate is
+/// its place in the list of candidates, from 0. An order is one of all candidates, each assertion is a proper one among them, and each
+/// margin, the file's and those of the claims, is 1 to the number of records. A plan is for at least as many cards as there are records
+/// and at most `MOST_CARDS`, with a gamma of 1 to `GREATEST_GAMMA` and a limit of 1 to `GREATEST_LIMIT`, and has for each claim 1 to
+/// `MOST_DRAWS` draws, or none. Whether the file holds of any ballots is for a checker to find out.
 ///
 /// To a contract a file is the record of these values, with a list for each list.
 #[derive(Drop)]
@@ -102,7 +101,8 @@ impl AssertionFile {
         requires most_records { parts.records ≤ MOST_RECORDS }
         requires winner { parts.winner < length parts.candidates }
         requires margin { IsMargin parts.records parts.margin }
-        requires order { IsTrue (is_order (length parts.candidates) parts.order) }
+        requires order { IfSome parts.order (λ order.
+            IsTrue (is_order (length parts.candidates) order)) }
         requires claims { All (IsSoundClaim (length parts.candidates) parts.records) parts.claims }
         requires plan { IfSome parts.plan (IsSoundPlan parts.records (length parts.claims)) }
         ensures { result ≡ parts }
@@ -179,12 +179,13 @@ impl AssertionFile {
         self.parts.margin
     }
 
-    /// The order that the file gives as the hardest to refute, first eliminated first.
-    pub fn order(&self) -> &Order
-        ensures same { result.now ≡ self.now.order }
-        ensures order { IsTrue (is_order (length self.now.candidates) result.now) }
+    /// The order that the file gives as the hardest to refute, first eliminated first. A file of version 3 gives none.
+    pub fn order(&self) -> Option<&Order>
+        ensures same { option_map (λ order. order.now) result ≡ self.now.order }
+        ensures order { IfSome result (λ order.
+            IsTrue (is_order (length self.now.candidates) order.now)) }
     {
-        &self.parts.order
+        self.parts.order.as_ref()
     }
 
     /// The assertions and their margins.

@@ -1,5 +1,5 @@
-// A guess at what an assertion file says, from bytes in the layout that is printed. Whoever prints it and gets the same bytes knows that it
-// is right; where the layout is another one, or anything else is in the way, there is none.
+// A guess at what an assertion file says, from bytes in the layout that is printed. If it is printed and gives the same bytes, it is
+// right. If the layout is another one, or anything is in the way, there is no guess.
 ghost use Rattle.std.specs.Prelude.{◌≡◌, ◌≤◌, ◌&&◌, length, All, IfSome, IsTrue};
 ghost use Rattle.std.specs.List.{list_all};
 ghost use Rattle.irv_base.specs.declared.limits.TheConstants.{ROOM};
@@ -64,7 +64,7 @@ fn is_proper(n: usize, a: &Assertion) -> bool
     }
 }
 
-// Whether a claim can be one of a file about so many candidates and records.
+// Whether a claim can be one of a file about this many candidates and records.
 fn is_sound(n: usize, records: u32, claim: &Claim) -> bool
     requires { n ≤ ROOM }
     ensures { result ≡ (is_proper n claim.now.assertion && is_margin records claim.now.margin) }
@@ -120,7 +120,7 @@ fn last_place(text: &[u8], part: &[u8]) -> Option<usize>
     None
 }
 
-// The file without its claims, of which these are the members behind them.
+// The file without its claims, from the members after them.
 fn without_claims(alloc: Global, members: &[u8]) -> Option<AssertionFile> {
     let mut text = Vec::new(alloc);
     text.extend_from_slice(b"{\"assertions\":[").ok()?;

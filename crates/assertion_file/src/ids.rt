@@ -84,7 +84,7 @@ pub fn numbers(alloc: Global, names: &[Name], ids: &[Value]) -> Result<Option<Ve
     Ok(Some(numbers))
 }
 
-/// The set of the candidates with these ids: F4 if one isn't among them, and else F5 if one stands twice.
+/// The set of the candidates with these ids: F4 if one isn't among them, otherwise F5 if one is repeated.
 pub fn set_of(names: &[Name], ids: &[Value]) -> Result<CandSet, FRule>
     requires { length names.now ≤ ROOM }
     ensures { let wanted = stated_ids ids.now in let cs = numbers_of names.now wanted in

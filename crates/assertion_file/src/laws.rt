@@ -2,7 +2,7 @@
 ghost use Rattle.std.specs.Prelude.{◌≡◌};
 ghost use Rattle.assertion_file.specs.Laws.{TextReadsBack, PrintedReadsBack, ReadIsSound, ReadIsPrinted};
 ghost use Rattle.assertion_file.specs.declared.members.TheConstants.{MOST_NUMBER};
-ghost use Rattle.assertion_file.specs.declared.print.TheConstants.{VERSION, PLAN_VERSION};
+ghost use Rattle.assertion_file.specs.declared.print.TheConstants.{VERSION, PLAN_VERSION, COVER_VERSION};
 
 /// What is printed reads as the file's JSON value.
 pub fn text_reads_back()
@@ -29,4 +29,5 @@ pub fn limits()
     ensures most_number { MOST_NUMBER ≡ 4294967295 }
     ensures version { VERSION ≡ 1 }
     ensures plan_version { PLAN_VERSION ≡ 2 }
+    ensures cover_version { COVER_VERSION ≡ 3 }
 {}

@@ -15,10 +15,11 @@ mod plan;
 mod print;
 mod read;
 
+pub use claims::assertion;
 pub use fault::{FRule, FileFault};
 pub use file::{AssertionFile, Parts};
-pub use ids::id_of;
-pub use members::{Terms, list_in, number, number_in, terms_of, text_in};
+pub use ids::{candidate, id_of, numbers};
+pub use members::{Terms, list_in, number, number_in, rest_in, terms_of, text_in, texts_in};
 pub use plan::PlanFacts;
-pub use print::{PLAN_VERSION, VERSION, print_file};
+pub use print::{COVER_VERSION, PLAN_VERSION, VERSION, print_file};
 pub use read::read_file;

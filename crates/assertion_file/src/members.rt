@@ -2,10 +2,10 @@
 ghost use Rattle.std.specs.Prelude.{◌≡◌, map, option_map};
 ghost use Rattle.std.specs.List.{list_all};
 ghost use Rattle.serde_json.specs.View.{view};
-ghost use Rattle.assertion_file.specs.Stated.{draws_in, heading_in, entry_in, is_text, list_in, number, number_in, number_or_null, rest_in, terms_in, terms_of, text_in, text_of, texts_in};
+ghost use Rattle.assertion_file.specs.Stated.{draws_asked, draws_in, heading_in, entry_in, is_text, lacks, list_in, number, number_in, number_or_null, order_in, rest_in, terms_in, terms_of, terms_or_none, text_in, text_of, texts_in};
 ghost use Rattle.assertion_file.specs.Views.{stated_ids, stated_heading, stated_entry};
 
-use crate::print::PLAN_VERSION;
+use crate::print::{COVER_VERSION, PLAN_VERSION};
 use serde_json::Value;
 
 /// The greatest number that a file may have.
@@ -22,6 +22,17 @@ pub struct Terms {
     pub limit: u32,
 }
 
+/// What the assertions of a file have to say of their draws.
+#[derive(Clone, Copy)]
+pub enum DrawsMember {
+    /// Each has the member, since the file has a plan.
+    Needed,
+    /// It isn't looked at: in `VERSION`.
+    Unread,
+    /// None has it: in `COVER_VERSION`, without a plan.
+    Absent,
+}
+
 /// The members of the file's object.
 #[derive(Clone, Copy)]
 pub struct Heading<'a> {
@@ -33,11 +44,11 @@ pub struct Heading<'a> {
     pub contest: &'a str,
     /// What it says is the smallest margin of its assertions.
     pub margin: u32,
-    /// The ids of its order, first eliminated first, texts alone.
-    pub order: &'a [Value],
+    /// The ids of its order, first eliminated first, texts alone. In `COVER_VERSION` it has none.
+    pub order: Option<&'a [Value]>,
     /// How many records it says that the ballot file has.
     pub records: u32,
-    /// What it plans its draws for, in `PLAN_VERSION` alone.
+    /// What it plans its draws for: in `PLAN_VERSION`, and in `COVER_VERSION` if it has a plan.
     pub terms: Option<Terms>,
     /// The version of the file's form.
     pub version: u32,
@@ -54,13 +65,13 @@ pub struct Entry<'a> {
     pub loser: &'a str,
     /// By how many votes it is said to be true.
     pub margin: u32,
-    /// Of a NEN the ids of those left, texts alone. A NEB has none.
+    /// For a NEN the ids of those left, all of them texts. A NEB has none.
     pub rest: Option<&'a [Value]>,
     /// The draws that are planned for it. A full count has none, nor has a file without a plan.
     pub draws: Option<u32>,
 }
 
-/// The text that the value is, or an empty one where it isn't one.
+/// The text that the value is, or an empty one if it isn't one.
 pub fn text_of(value: &Value) -> &str
     ensures { result.now ≡ text_of (view value.now) }
 {
@@ -92,7 +103,7 @@ pub fn number_in(value: &Value, name: &str) -> Option<u32>
     number(value.get(name)?)
 }
 
-// The number, or nothing where the value is null.
+// The number, or nothing if the value is null.
 fn number_or_null(value: &Value) -> Option<Option<u32>>
     ensures { result ≡ number_or_null (view value.now) }
 {
@@ -116,8 +127,9 @@ fn are_texts(values: &[Value]) -> bool
     values.iter().all(|value| value.is_string())
 }
 
+/// The elements of the list that the member of this name is, if all of them are texts.
 #[tactic(auto, using(crate::proofs::Elements::all_texts))]
-fn texts_in<'a>(value: &'a Value, name: &str) -> Option<&'a [Value]>
+pub fn texts_in<'a>(value: &'a Value, name: &str) -> Option<&'a [Value]>
     ensures { option_map (λ values. stated_ids values.now) result ≡
         texts_in name.now (view value.now) }
 {
@@ -139,14 +151,45 @@ pub fn terms_of(value: &Value) -> Option<Terms>
     })
 }
 
+fn lacks(value: &Value, name: &str) -> bool
+    ensures { result ≡ lacks name.now (view value.now) }
+{
+    value.get(name).is_none()
+}
+
+// The terms, all of them or none.
+fn terms_or_none(value: &Value) -> Option<Option<Terms>>
+    ensures { result ≡ terms_or_none (view value.now) }
+{
+    if lacks(value, "cards") && lacks(value, "gamma") && lacks(value, "limit") {
+        return Some(None);
+    }
+    Some(Some(terms_of(value)?))
+}
+
 // What a file of this version plans its draws for.
 fn terms_in(version: u32, value: &Value) -> Option<Option<Terms>>
     ensures { result ≡ terms_in version (view value.now) }
 {
-    if version != PLAN_VERSION {
-        return Some(None);
+    match version {
+        PLAN_VERSION => Some(Some(terms_of(value)?)),
+        COVER_VERSION => terms_or_none(value),
+        _ => Some(None),
     }
-    Some(Some(terms_of(value)?))
+}
+
+// The ids of the order, which a file of `COVER_VERSION` doesn't have.
+fn order_in(version: u32, value: &Value) -> Option<Option<&[Value]>>
+    ensures { option_map (λ order. option_map (λ values. stated_ids values.now) order) result ≡
+        order_in version (view value.now) }
+{
+    if version != COVER_VERSION {
+        return Some(Some(texts_in(value, "order")?));
+    }
+    if !lacks(value, "order") {
+        return None;
+    }
+    Some(None)
 }
 
 /// The members of a file, if all are there and of their kind.
@@ -160,7 +203,7 @@ pub fn heading_in(value: &Value) -> Option<Heading<'_>>
         candidates: texts_in(value, "candidates")?,
         contest: text_in(value, "contest")?,
         margin: number_in(value, "margin")?,
-        order: texts_in(value, "order")?,
+        order: order_in(version, value)?,
         records: number_in(value, "records")?,
         terms: terms_in(version, value)?,
         version,
@@ -168,7 +211,8 @@ pub fn heading_in(value: &Value) -> Option<Heading<'_>>
     })
 }
 
-fn rest_in<'a>(kind: &str, value: &'a Value) -> Option<Option<&'a [Value]>>
+/// The ids of a NEN's set, as texts. A NEB's aren't looked at; there is no answer if the kind is another one, or a NEN has none.
+pub fn rest_in<'a>(kind: &str, value: &'a Value) -> Option<Option<&'a [Value]>>
     ensures { option_map (λ rest. option_map (λ values. stated_ids values.now) rest) result ≡
         rest_in kind.now (view value.now) }
 {
@@ -181,20 +225,39 @@ fn rest_in<'a>(kind: &str, value: &'a Value) -> Option<Option<&'a [Value]>>
     Some(Some(texts_in(value, "rest")?))
 }
 
-// The draws that are planned, where there is a plan.
-fn draws_in(planned: bool, value: &Value) -> Option<Option<u32>>
-    ensures { result ≡ draws_in planned (view value.now) }
+/// What the assertions have to say of their draws, in a file of this version with these terms.
+pub fn draws_asked(version: u32, terms: Option<Terms>) -> DrawsMember
+    ensures { result ≡ draws_asked version terms }
 {
-    if !planned {
-        return Some(None);
+    if terms.is_some() {
+        return DrawsMember::Needed;
     }
-    number_or_null(value.get("draws")?)
+    if version == COVER_VERSION {
+        return DrawsMember::Absent;
+    }
+    DrawsMember::Unread
 }
 
-/// The members of an assertion, if all are there and of their kind. Its draws are looked at where the file has a plan.
+// The draws that are planned, if there is a plan.
+fn draws_in(asked: DrawsMember, value: &Value) -> Option<Option<u32>>
+    ensures { result ≡ draws_in asked (view value.now) }
+{
+    match asked {
+        DrawsMember::Needed => number_or_null(value.get("draws")?),
+        DrawsMember::Unread => Some(None),
+        DrawsMember::Absent => {
+            if !lacks(value, "draws") {
+                return None;
+            }
+            Some(None)
+        }
+    }
+}
+
+/// The members of an assertion, if all are there and of their kind, and its draws are said as the file asks for.
 #[tactic(auto, unfolding(crate::specs::Stated::entry_in))]
-pub fn entry_in(planned: bool, value: &Value) -> Option<Entry<'_>>
-    ensures { option_map stated_entry result ≡ entry_in planned (view value.now) }
+pub fn entry_in(asked: DrawsMember, value: &Value) -> Option<Entry<'_>>
+    ensures { option_map stated_entry result ≡ entry_in asked (view value.now) }
 {
     let kind = text_in(value, "kind")?;
     Some(Entry {
@@ -202,6 +265,6 @@ pub fn entry_in(planned: bool, value: &Value) -> Option<Entry<'_>>
         loser: text_in(value, "loser")?,
         margin: number_in(value, "margin")?,
         rest: rest_in(kind, value)?,
-        draws: draws_in(planned, value)?,
+        draws: draws_in(asked, value)?,
     })
 }

@@ -1,9 +1,9 @@
 // What an assertion file says of its audit.
 use std::marker::Model;
 
-/// What an audit of the assertions takes where no card shows a discrepancy: `cards` are those of the manifest, `gamma` is in
-/// thousandths, the risk limit `limit` in millionths, and `draws` has for each assertion, in the file's order, how many draws
-/// confirm it, or `None` where that takes a full count.
+/// What an audit of the assertions takes if no card shows a discrepancy: `cards` are those of the manifest, `gamma` is in thousandths,
+/// the risk limit `limit` in millionths, and `draws` has for each assertion, in the file's order, how many draws confirm it, or `None` if
+/// that takes a full count.
 ///
 /// To a contract it is the record of these values, with a list of the draws.
 #[derive(Drop)]

@@ -1,23 +1,27 @@
 // The text of an assertion file.
+//
+// The members go to the writer of `serde_json` one after the other. A `Value` of each of a hundred thousand assertions took ten times as
+// long as the text.
 ghost use Rattle.std.specs.Prelude.{◌≡◌, ◌<◌, ◌≤◌, ◌+◌, ◌^◌, length, map, option_map, slice_index_or, None, Some, Ok, All, IfOk, IfSome, OnOk, IsTrue};
 ghost use Rattle.std.specs.List.{list_all};
 ghost use Rattle.serde.specs.Event.{WritesEach};
 ghost use Rattle.serde_json.specs.Data.{string};
 ghost use Rattle.serde_json.specs.Events.{SendsValue};
 ghost use Rattle.irv_base.specs.Names.{is_name};
+ghost use Rattle.irv_base.specs.Orders.{is_order};
 ghost use Rattle.irv_base.specs.declared.limits.TheConstants.{ROOM};
 ghost use Rattle.assertions.specs.Assertions.{is_proper};
 ghost use Rattle.assertion_file.specs.Content.{Content, HasNames, IsSound};
 ghost use Rattle.assertion_file.specs.Ids.{ids_of, ids_in};
 ghost use Rattle.assertion_file.specs.Reading.{assertion_file_of};
 ghost use Rattle.assertion_file.specs.Sent.{SendsMember, SendsNamed};
-ghost use Rattle.assertion_file.specs.Text.{array_of, ids_value, neb_value, nen_value, claim_value, draws_member, file_members, file_value, number_member, told_of, version_of, whole_number, assertion_file_text, json_of};
+ghost use Rattle.assertion_file.specs.Text.{array_of, ids_value, neb_value, nen_value, claim_value, draws_member, file_members, file_value, number_member, order_member, told_of, version_of, whole_number, assertion_file_text, json_of};
 
 use crate::AssertionFile;
 use crate::ids::id_of;
 use crate::plan::PlanFacts;
 use assertions::{Assertion, Claim};
-use irv_base::{CandSet, Candidate, Memory, Name};
+use irv_base::{CandSet, Candidate, Memory, Name, Order};
 use serde::{Described, Serialize, Serializer};
 use std::alloc::Global;
 
@@ -26,6 +30,10 @@ pub const VERSION: u32 = 1;
 
 /// The version of its form with a plan.
 pub const PLAN_VERSION: u32 = 2;
+
+/// The version of its form without an order: a covering set of true assertions, of which nothing is said of a best margin. It may have
+/// a plan.
+pub const COVER_VERSION: u32 = 3;
 
 // A member that is a text.
 fn send_text<S: Serializer>(name: &str, text: &str, out: &mut S) -> Result<(), S::Error>
@@ -45,7 +53,7 @@ fn send_number<S: Serializer>(name: &str, number: u32, out: &mut S) -> Result<()
     out.u64(number as u64)
 }
 
-// A member that stands there where there is a number.
+// A member that is there if there is a number.
 fn send_number_if<S: Serializer>(
     name: &str,
     number: Option<u32>,
@@ -60,7 +68,7 @@ fn send_number_if<S: Serializer>(
     }
 }
 
-// The draws that are planned for an assertion, or null for a full count. Version 1 has no such member.
+// The draws that are planned for an assertion, or null for a full count. Without a plan there is no such member.
 fn send_draws<S: Serializer>(draws: Option<Option<u32>>, out: &mut S) -> Result<(), S::Error>
     ensures { OnOk result (WritesEach SendsNamed (draws_member draws)
         (S.written out.old) (S.written out.new)) }
@@ -105,6 +113,26 @@ fn send_order<S: Serializer>(
     out.end_seq()
 }
 
+// The order as a member, if there is one.
+fn send_order_if<S: Serializer>(
+    names: &[Name],
+    order: Option<&Order>,
+    out: &mut S,
+) -> Result<(), S::Error>
+    requires { IfSome order (λ order. IsTrue (is_order (length names.now) order.now)) }
+    ensures { let order = option_map (λ order. order.now) order.entry in
+        OnOk result (WritesEach SendsNamed (order_member names.now order)
+        (S.written out.old) (S.written out.new)) }
+{
+    match order {
+        None => Ok(()),
+        Some(order) => {
+            out.key("order")?;
+            send_order(names, order.candidates(), out)
+        }
+    }
+}
+
 // The ids of the candidates in the set, in the contest's order.
 fn send_set<S: Serializer>(names: &[Name], set: CandSet, out: &mut S) -> Result<(), S::Error>
     requires few { length names.now ≤ ROOM }
@@ -121,7 +149,7 @@ fn send_set<S: Serializer>(names: &[Name], set: CandSet, out: &mut S) -> Result<
     out.end_seq()
 }
 
-// How many members an assertion has, where there are so many beside its draws.
+// How many members an assertion has, with this many apart from its draws.
 fn with_draws(draws: Option<Option<u32>>, others: usize) -> usize
     requires { others ≤ 5 }
     ensures { result ≡ length (draws_member draws) + others }
@@ -232,17 +260,19 @@ fn send_claims<S: Serializer>(
     out.end_seq()
 }
 
-// The version of a file with this plan.
-fn version_of(plan: Option<&PlanFacts>) -> u32
-    ensures { result ≡ version_of (option_map (λ facts. facts.now) plan.entry) }
+// The version of a file with this order and this plan.
+fn version_of(order: Option<&Order>, plan: Option<&PlanFacts>) -> u32
+    ensures { result ≡ version_of (option_map (λ order. order.now) order.entry)
+        (option_map (λ facts. facts.now) plan.entry) }
 {
-    match plan {
-        None => VERSION,
-        Some(_plan) => PLAN_VERSION,
+    match (order, plan) {
+        (None, _) => COVER_VERSION,
+        (Some(_order), None) => VERSION,
+        (Some(_order), Some(_plan)) => PLAN_VERSION,
     }
 }
 
-// The numbers that stand in a file with this plan: the cards, gamma and the limit.
+// The numbers that a file with this plan has: the cards, gamma and the limit.
 fn numbers_of(plan: Option<&PlanFacts>) -> (Option<u32>, Option<u32>, Option<u32>)
     ensures cards { let plan = option_map (λ facts. facts.now) plan.entry in
         result.0 ≡ option_map (λ plan. plan.cards) plan }
@@ -258,14 +288,13 @@ fn numbers_of(plan: Option<&PlanFacts>) -> (Option<u32>, Option<u32>, Option<u32
 }
 
 // How many members it has.
-fn member_count(plan: Option<&PlanFacts>) -> usize
-    ensures { (file : Content) → file.plan ≡ option_map (λ facts. facts.now) plan.entry
+fn member_count(order: Option<&Order>, plan: Option<&PlanFacts>) -> usize
+    ensures { (file : Content) → file.order ≡ option_map (λ order. order.now) order.entry
+        → file.plan ≡ option_map (λ facts. facts.now) plan.entry
         → result ≡ length (file_members file) }
 {
-    match plan {
-        None => 8,
-        Some(_plan) => 11,
-    }
+    let ordered = if order.is_some() { 8 } else { 7 };
+    if plan.is_some() { ordered + 3 } else { ordered }
 }
 
 // The file as serde has it: members are sent to the writer one after the other, and no tree of them is built.
@@ -281,9 +310,10 @@ impl Serialize for FileForm<'_> {
     fn serialize<S: Serializer>(&self, out: &mut S) -> Result<(), S::Error> {
         let file = self.0;
         let names = file.candidates();
+        let order = file.order();
         let plan = file.plan();
         let (cards, gamma, limit) = numbers_of(plan);
-        out.begin_map(Some(member_count(plan)))?;
+        out.begin_map(Some(member_count(order, plan)))?;
         out.key("assertions")?;
         send_claims(names, file.claims(), plan, out)?;
         out.key("candidates")?;
@@ -293,23 +323,22 @@ impl Serialize for FileForm<'_> {
         send_number_if("gamma", gamma, out)?;
         send_number_if("limit", limit, out)?;
         send_number("margin", file.margin(), out)?;
-        out.key("order")?;
-        send_order(names, file.order().candidates(), out)?;
+        send_order_if(names, order, out)?;
         send_number("records", file.records(), out)?;
-        send_number("version", version_of(plan), out)?;
+        send_number("version", version_of(order, plan), out)?;
         send_text("winner", id_of(names, file.winner()), out)?;
         out.end_map()
     }
 }
 
-/// The bytes of an assertion file, of version 2 where it has a plan, and else of version 1: one JSON object in compact form,
-/// its members in byte order, and a line feed.
+/// The bytes of an assertion file: one JSON object in compact form, its members in byte order, and a line feed. It is of version 3 if it
+/// has no order, otherwise of version 2 if it has a plan, and of version 1 if it has none.
 pub fn print_file(alloc: Global, file: &AssertionFile) -> Result<Vec<u8>, Memory>
     ensures text { IfOk result (λ v. v.items ≡ assertion_file_text file.now) }
     ensures json { IfOk result (λ v. json_of v.items ≡ Some (file_value file.now)) }
     ensures reads_back { IfOk result (λ v. assertion_file_of v.items ≡ Ok file.now) }
 {
-    // Texts, numbers, lists and objects are refused for want of memory alone.
+    // Texts, numbers, lists and objects are refused for want of memory only.
     let Ok(mut bytes) = serde_json::to_vec(alloc, &FileForm(file)) else {
         return Err(Memory);
     };

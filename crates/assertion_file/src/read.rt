@@ -1,11 +1,17 @@
 // Reading an assertion file.
-ghost use Rattle.std.specs.Prelude.{◌≡◌, ◌<◌, ◌≤◌, ◌&&◌, false, length, map, Ok, IfOk, IfErr, IfSome, IfNone, IsTrue};
+//
+// The bytes are first taken for some that `print_file` wrote. The guess is printed again, and the same bytes show that it is right. Bytes
+// in another layout, and all that are refused, are judged from the tree of their values, which takes seventeen times as much memory as
+// the text. So there is one grammar, and no refusal comes from the quick way.
+ghost use Rattle.std.specs.Prelude.{◌≡◌, ◌<◌, ◌≤◌, ◌&&◌, false, length, map, option_map, Ok, IfOk, IfErr, IfSome, IfNone, IsTrue};
 ghost use Rattle.serde_json.specs.View.{view};
+ghost use Rattle.irv_base.specs.Names.{is_among};
 ghost use Rattle.irv_base.specs.Orders.{is_order};
 ghost use Rattle.irv_base.specs.declared.limits.TheConstants.{ROOM};
 ghost use Rattle.file_fault.specs.Refusals.{Refuses};
-ghost use Rattle.assertion_file.specs.Ids.{number_of, numbers_of};
-ghost use Rattle.assertion_file.specs.Reading.{are_terms, assertion_file_of, claim_in, claims_in, content_of, id_rules, is_margin, is_record_count, is_version, judged, judged_heading, located, named_rules, plan_with};
+ghost use Rattle.assertion_file.specs.Ids.{number_of};
+ghost use Rattle.assertion_file.specs.declared.fault.FRule.TheVariants.{F5};
+ghost use Rattle.assertion_file.specs.Reading.{are_terms, assertion_file_of, claim_in, claims_in, content_of, id_rules, is_margin, is_record_count, is_version, judged, is_order_if, judged_heading, located, named_rules, order_numbers, plan_with};
 ghost use Rattle.assertion_file.specs.Views.{stated_heading, stated_ids};
 ghost use Rattle.file_fault.specs.declared.fault.Fault.TheVariants.{Refused};
 
@@ -14,9 +20,9 @@ use crate::fault::{FRule, FileFault};
 use crate::file::{AssertionFile, Parts};
 use crate::guess::guess;
 use crate::ids::{candidate, candidates, numbers};
-use crate::members::{Heading, Terms, heading_in};
+use crate::members::{Heading, Terms, draws_asked, heading_in};
 use crate::plan::PlanFacts;
-use crate::print::{PLAN_VERSION, VERSION, print_file};
+use crate::print::{COVER_VERSION, PLAN_VERSION, VERSION, print_file};
 use assertions::Claim;
 use irv_base::{
     Candidate, GREATEST_GAMMA, GREATEST_LIMIT, MOST_CARDS, MOST_RECORDS, Memory, Name, Order,
@@ -35,7 +41,7 @@ struct Ids {
 #[derive(Drop)]
 struct Chosen {
     winner: Candidate,
-    numbers: Vec<u8>,
+    numbers: Option<Vec<u8>>,
 }
 
 // Those who are named in the file's own members.
@@ -44,7 +50,7 @@ struct Named {
     contest: Name,
     candidates: Vec<Name>,
     winner: Candidate,
-    order: Order,
+    order: Option<Order>,
 }
 
 // A refusal of the file's own members.
@@ -57,7 +63,7 @@ fn refused(rule: FRule) -> FileFault
 fn is_version(version: u32) -> bool
     ensures { result ≡ is_version version }
 {
-    version == VERSION || version == PLAN_VERSION
+    version == VERSION || version == PLAN_VERSION || version == COVER_VERSION
 }
 
 // Judges the version, the contest and the candidates: F3 and F4.
@@ -85,6 +91,31 @@ fn ids_of(alloc: Global, heading: &Heading<'_>) -> Result<Ids, FileFault>
     })
 }
 
+// The numbers of the order's candidates, if there is an order, where the winner is a candidate: F4.
+fn numbers_of(
+    alloc: Global,
+    names: &[Name],
+    heading: &Heading<'_>,
+) -> Result<Option<Vec<u8>>, FileFault>
+    requires few { length names.now ≤ ROOM }
+    requires same { names.now ≡ stated_ids heading.now.candidates.now }
+    requires winner { IsTrue (is_among names.now heading.now.winner.now) }
+    ensures kept { let stated = stated_heading heading.now in
+        IfOk result (λ _. judged (named_rules stated) stated ≡ Ok stated) }
+    ensures numbers { IfOk result (λ numbers. option_map (λ v. v.items) numbers ≡
+        order_numbers names.now (stated_heading heading.now).order) }
+    ensures refused { let stated = stated_heading heading.now in
+        IfErr result (Refuses (located 0 (judged (named_rules stated) stated))) }
+{
+    let Some(order) = heading.order else {
+        return Ok(None);
+    };
+    let Some(numbers) = numbers(alloc, names, order)? else {
+        return Err(refused(FRule::F4));
+    };
+    Ok(Some(numbers))
+}
+
 // Judges whether those who are named are candidates: F4.
 fn chosen_of(alloc: Global, names: &[Name], heading: &Heading<'_>) -> Result<Chosen, FileFault>
     requires few { length names.now ≤ ROOM }
@@ -94,16 +125,15 @@ fn chosen_of(alloc: Global, names: &[Name], heading: &Heading<'_>) -> Result<Cho
     ensures winner { IfOk result (λ chosen.
         chosen.winner ≡ number_of names.now heading.now.winner.now) }
     ensures numbers { IfOk result (λ chosen.
-        chosen.numbers.items ≡ numbers_of names.now (stated_ids heading.now.order.now)) }
+        option_map (λ v. v.items) chosen.numbers ≡
+        order_numbers names.now (stated_heading heading.now).order) }
     ensures refused { let stated = stated_heading heading.now in
         IfErr result (Refuses (located 0 (judged (named_rules stated) stated))) }
 {
     let Some(winner) = candidate(names, heading.winner) else {
         return Err(refused(FRule::F4));
     };
-    let Some(numbers) = numbers(alloc, names, heading.order)? else {
-        return Err(refused(FRule::F4));
-    };
+    let numbers = numbers_of(alloc, names, heading)?;
     Ok(Chosen { winner, numbers })
 }
 
@@ -121,7 +151,26 @@ fn order_of(names: &[Name], numbers: &[u8]) -> Option<Order>
     }
 }
 
-// What a plan is for, where there are so many records.
+// The order of these candidates, if there are numbers: F5 if they aren't one.
+fn order_if(names: &[Name], numbers: Option<Vec<u8>>) -> Result<Option<Order>, FileFault>
+    requires some { 0 < length names.now }
+    requires few { length names.now ≤ ROOM }
+    ensures order { IfOk result (λ order. order ≡ option_map (λ v. v.items) numbers) }
+    ensures valid { IfOk result (λ order. IsTrue (is_order_if (length names.now) order)) }
+    ensures rule { IfErr result (λ fault. fault ≡ Refused F5 0) }
+    ensures none { IfErr result (λ _.
+        is_order_if (length names.now) (option_map (λ v. v.items) numbers) ≡ false) }
+{
+    let Some(numbers) = numbers else {
+        return Ok(None);
+    };
+    let Some(order) = order_of(names, numbers.as_slice()) else {
+        return Err(refused(FRule::F5));
+    };
+    Ok(Some(order))
+}
+
+// What a plan is for, among this many records.
 fn are_terms(records: u32, terms: Option<Terms>) -> bool
     ensures { result ≡ are_terms records terms }
 {
@@ -156,17 +205,15 @@ fn names_of(alloc: Global, heading: &Heading<'_>) -> Result<Named, FileFault>
         named.candidates.items ≡ stated_ids heading.now.candidates.now) }
     ensures winner { let ids = stated_ids heading.now.candidates.now in
         IfOk result (λ named. named.winner ≡ number_of ids heading.now.winner.now) }
-    ensures order { let ids = stated_ids heading.now.candidates.now in
-        IfOk result (λ named. named.order ≡ numbers_of ids (stated_ids heading.now.order.now)) }
+    ensures order { let stated = stated_heading heading.now in
+        IfOk result (λ named. named.order ≡ order_numbers stated.candidates stated.order) }
     ensures refused { IfErr result
         (Refuses (located 0 (judged_heading (stated_heading heading.now)))) }
 {
     let ids = ids_of(alloc, heading)?;
     let names = ids.candidates.as_slice();
     let chosen = chosen_of(alloc, names, heading)?;
-    let Some(order) = order_of(names, chosen.numbers.as_slice()) else {
-        return Err(refused(FRule::F5));
-    };
+    let order = order_if(names, chosen.numbers)?;
     if !are_counts(heading) {
         return Err(refused(FRule::F6));
     }
@@ -190,8 +237,8 @@ fn claims_in(
         claims_in (stated_heading heading.now) ≡ Ok claims.items) }
     ensures refused { IfErr result (Refuses (claims_in (stated_heading heading.now))) }
 {
-    let planned = heading.terms.is_some();
-    claims(alloc, names, heading.records, planned, heading.assertions)
+    let asked = draws_asked(heading.version, heading.terms);
+    claims(alloc, names, heading.records, asked, heading.assertions)
 }
 
 fn claim_in(planned: &Planned) -> Claim
@@ -290,22 +337,22 @@ fn printed_as(alloc: Global, bytes: &[u8]) -> Option<AssertionFile>
     Some(file)
 }
 
-/// Reads an assertion file, of version 1 or of version 2.
+/// Reads an assertion file, of any version.
 ///
-/// The bytes are one JSON object, with its members in any order. Further members are passed over, and of a repeated
-/// name the last counts. A NEN's rest may be in any order, and a NEB's isn't looked at. Numbers are whole ones up to
-/// `u32::MAX`, without a point or an exponent. Version 2 has a plan: the file's members `cards`, `gamma` and `limit`, and the
-/// member `draws` of each assertion, a number or null. In version 1 these aren't looked at.
+/// The bytes are one JSON object, with its members in any order. Further members are skipped, and if a name is repeated the last one
+/// counts. A NEN's rest may be in any order, and a NEB's isn't looked at. Numbers are whole ones up to `u32::MAX`, without a point or an
+/// exponent. Version 2 has a plan: the file's members `cards`, `gamma` and `limit`, and the member `draws` of each assertion, a number or
+/// null. In version 1 these aren't looked at. Version 3 has all of them or none, and has no `order`.
 ///
-/// It is refused by the first rule that is broken. The file's own members are judged first, with place 0: by F1 if
-/// the bytes aren't JSON; by F2 if a member is missing or of another kind; by F3 if the version is neither `VERSION` nor `PLAN_VERSION`; by
-/// F4 if the contest's id or a candidate's is none, there aren't `FEWEST_CANDIDATES` to `MOST_CANDIDATES` of them, one
-/// stands twice, or the winner or one of the order isn't among them; by F5 if the order hasn't each candidate once; by
-/// F6 if there aren't 1 to `MOST_RECORDS` records, the margin isn't 1 to their number, or, of a plan, the cards aren't their
-/// number to `MOST_CARDS`, gamma isn't 1 to `GREATEST_GAMMA`, or the limit isn't 1 to `GREATEST_LIMIT`. Then comes each
-/// assertion, with its number from 1 as the place: F2 as above; F4 if one who is named isn't a candidate, or the winner is
-/// the loser; F5 if a NEN's rest repeats a candidate or lacks the winner or the loser; F6 if the margin isn't 1 to the
-/// number of records, or its draws are planned and aren't 1 to `MOST_DRAWS`.
+/// It is refused by the first rule that is broken. The file's own members are judged first, with place 0: by F1 if the bytes aren't JSON;
+/// by F2 if a member is missing or of another kind, or there in spite of the version; by F3 if the version is none of `VERSION`,
+/// `PLAN_VERSION` and `COVER_VERSION`; by F4 if the contest's
+/// id or a candidate's is none, there aren't `FEWEST_CANDIDATES` to `MOST_CANDIDATES` of them, one is repeated, or the winner or one of
+/// the order isn't among them; by F5 if the order doesn't have each candidate once; by F6 if there aren't 1 to `MOST_RECORDS` records,
+/// the margin isn't 1 to their number, or, in a plan, the cards aren't their number to `MOST_CARDS`, gamma isn't 1 to `GREATEST_GAMMA`,
+/// or the limit isn't 1 to `GREATEST_LIMIT`. Then comes each assertion, with its number from 1 as the place: F2 as above; F4 if one who
+/// is named isn't a candidate, or the winner is the loser; F5 if a NEN's rest repeats a candidate or lacks the winner or the loser; F6 if
+/// the margin isn't 1 to the number of records, or its draws are planned and aren't 1 to `MOST_DRAWS`.
 ///
 /// Bytes as `print_file` writes them are read without a tree of their claims.
 pub fn read_file(alloc: Global, bytes: &[u8]) -> Result<AssertionFile, FileFault>

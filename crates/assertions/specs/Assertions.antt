@@ -21,7 +21,7 @@ votes_against records (Nen w l rest) = tally records rest l
 abbrev pub margin : List (List ℕ) → Assertion → ℤ
 margin records a = pos (votes_for records a) -ℤ pos (votes_against records a)
 
--- an assertion is true where its margin is above 0
+-- an assertion is true if its margin is above 0
 abbrev pub is_true : List (List ℕ) → Assertion → Bool
 is_true records a = nat_lt (votes_against records a) (votes_for records a)
 

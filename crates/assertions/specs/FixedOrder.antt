@@ -15,11 +15,11 @@ key (Nen w l rest) = 1 ∷ w ∷ l ∷ rest ∷ []
 abbrev pub is_before : Assertion → Assertion → Bool
 is_before a b = stands_before (key a) (key b)
 
--- which of two stands first
+-- which of two comes first
 abbrev pub fixed_order : Assertion → Assertion → Ordering
 fixed_order a b = slice_cmp nat_cmp (key a) (key b)
 
--- the key as one number, which is the smaller the earlier an assertion stands
+-- the key as one number, smaller for an assertion that comes earlier
 abbrev pub number_of : Assertion → ℕ
 number_of (Neb w l) = (w * 2 ^ 8 + l) * 2 ^ 32
 number_of (Nen w l rest) = ((2 ^ 8 + w) * 2 ^ 8 + l) * 2 ^ 32 + rest

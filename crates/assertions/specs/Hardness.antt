@@ -14,7 +14,7 @@ greatest xs = fold max 0 xs
 abbrev pub true_refuters : ℕ → List (List ℕ) → List ℕ → List Assertion
 true_refuters n records suffix = filter (λ a. refutes a suffix && is_true records a) (assertions n)
 
--- the greatest margin of a true assertion that refutes a suffix, or 0 where there is none; of a whole order this is its hardness
+-- the greatest margin of a true assertion that refutes a suffix, or 0 if there is none; for a whole order this is its hardness
 abbrev pub low : ℕ → List (List ℕ) → List ℕ → ℕ
 low n records suffix = greatest (map (true_margin records) (true_refuters n records suffix))
 
@@ -41,7 +41,7 @@ abbrev pub with_first_two_exchanged : List ℕ → List ℕ
 with_first_two_exchanged (a ∷ b ∷ rest) = b ∷ a ∷ rest
 with_first_two_exchanged short = short
 
--- where the search starts: the tabulated order with its last two candidates exchanged
+-- the start of the search: the tabulated order with its last two candidates exchanged
 abbrev pub start_order : List ℕ → List ℕ
 start_order order = reverse (with_first_two_exchanged (reverse order))
 

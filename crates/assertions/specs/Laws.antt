@@ -72,7 +72,7 @@ FixedOrderIsOrd =
     (a b : Assertion) →
     ((ghosts.cmp a b ≡ Less) ↔ IsTrue (is_before a b)) × ((ghosts.cmp a b ≡ Equal) ↔ (a ≡ b))
 
--- the numbers of two stand as the two do, and no two have the same
+-- the numbers of two compare as the two do, and no two have the same
 abbrev pub NumbersRise : Type 0
 NumbersRise =
     (a b : Assertion) → HasDigits a → HasDigits b →
@@ -80,7 +80,7 @@ NumbersRise =
 
 -- ==== refutation
 
--- NEB(w,l) refutes where l stands and w isn't behind it, NEN(w,l,rest) where w and those behind it are the rest
+-- NEB(w,l) refutes if l is there and w doesn't come after it, NEN(w,l,rest) if w and those after it are the rest
 abbrev pub RefutesWhere : Type 0
 RefutesWhere =
     (suffix : List ℕ) (w l rest : ℕ) → IsTrue (is_distinct suffix) →
@@ -141,7 +141,7 @@ abbrev pub PartsRise : Type 0
 PartsRise =
     (n c : ℕ) → AllPairs (λ suffix other. IsTrue (comes_before suffix other)) (parts_ending n c)
 
--- the suffixes that end in c and aren't whole are at most so many, and so are those that a count counts
+-- the suffixes that end in c and aren't whole are at most this many, and so are those that a count counts
 abbrev pub PartsAreFew : Type 0
 PartsAreFew = (n c : ℕ) → c < n → length (parts_ending n c) ≤ 2 * factorial (n - 1)
 
@@ -217,7 +217,7 @@ ScoreOfMore =
 abbrev pub ScoreOfNone : Type 0
 ScoreOfNone = (n : ℕ) (records : List (List ℕ)) → score_of n records [] ≡ no_score
 
--- a true NEN stands against each order that isn't possible
+-- a true NEN refutes each order that isn't possible
 abbrev pub NenAgainstImpossible : Type 0
 NenAgainstImpossible =
     (n : ℕ) (records : List (List ℕ)) (order : List ℕ) → IsTrue (is_order n order) →
@@ -232,7 +232,7 @@ NothingAgainstPossible =
     IsTrue (is_order n order) → IsTrue (is_possible records order) → IsTrue (is_proper n a) →
     IsTrue (is_true records a) → IsTrue (refutes a order) → ⊥
 
--- so an order is possible exactly where nothing true refutes it
+-- so an order is possible exactly if nothing true refutes it
 abbrev pub PossibleIffUnrefuted : Type 0
 PossibleIffUnrefuted =
     (n : ℕ) (records : List (List ℕ)) (order : List ℕ) → IsTrue (is_order n order) →
@@ -245,7 +245,7 @@ BestIsLeast =
     (n winner : ℕ) (hardness : List ℕ → ℕ) (order : List ℕ) →
     Contains (alternative_orders n winner) order → best_margin n winner hardness ≤ hardness order
 
--- a contest is decided for a candidate exactly where each other order has something true against it
+-- a contest is decided for a candidate exactly if something true refutes each other order
 abbrev pub DecidedIsPositive : Type 0
 DecidedIsPositive =
     (n winner : ℕ) (records : List (List ℕ)) → winner < n → 1 < n →
@@ -258,7 +258,7 @@ DecidedExactly =
     IsTrue (is_tabulated records order) → Elects order winner →
     (IsDecided n records ↔ (1 ≤ best_margin n winner (low n records)))
 
--- the first bound of the search is 0 exactly where the last two candidates tie
+-- the first bound of the search is 0 exactly if the last two candidates tie
 abbrev pub FirstBoundIsZero : Type 0
 FirstBoundIsZero =
     (n a b : ℕ) (records : List (List ℕ)) (before : List ℕ) →
@@ -274,7 +274,7 @@ pub record IsProof (n winner : ℕ) (records : List (List ℕ)) (claims : List A
   pub hold : IsTrue (list_all (is_true records) claims)
   pub cover : IsTrue (covers n winner claims)
 
--- there are such exactly where the contest is decided for the candidate
+-- there are such exactly if the contest is decided for the candidate
 abbrev pub ProofIffDecided : Type 0
 ProofIffDecided =
     (n winner : ℕ) (records : List (List ℕ)) → winner < n → 1 < n →
@@ -402,7 +402,7 @@ CertificateIsOne =
     IsCertificate n records winner best' order' claims' →
     (best ≡ best') × (order ≡ order') × (claims ≡ claims')
 
--- the certificate is the same in whatever order the records stand
+-- the certificate is the same for the records in any order
 abbrev pub RecordsInAnyOrder : Type 0
 RecordsInAnyOrder =
     (n winner : ℕ) (records others : List (List ℕ)) → IsPermutation records others →

@@ -31,7 +31,7 @@ offered score margin a =
 abbrev pub all_offered : List (List ℕ) → Score → List Assertion → Score
 all_offered records score claims = fold (λ s a. offered s (true_margin records a) a) score claims
 
--- what one more candidate in front adds: the NEBs that it loses to those outside, and the NENs that it wins from those behind it
+-- what one more candidate in front adds: the NEBs that it loses to those outside, and the NENs that it wins from those after it
 abbrev pub nebs_against : ℕ → ℕ → List ℕ → List Assertion
 nebs_against n c suffix = map (λ w. Neb w c) (filter (λ w. not (is_in suffix w)) (candidates n))
 

@@ -1,4 +1,4 @@
--- Suffixes of elimination orders: the last candidates, so that the winner stands last.
+-- Suffixes of elimination orders: the last candidates, so the winner is last.
 use Rattle.std.specs.Prelude.{◌≢◌, ℕ, zero, suc, ◌-◌, ◌*◌, Bool, nat_lt, if◌then◌else◌, List, [], ◌∷◌, length, filter, flat_map, reverse, IsTrue}
 use Rattle.irv_base.specs.Candidates.{candidates, all_but, is_in}
 use Rattle.irv_base.specs.Orders.{is_order, Elects}
@@ -35,7 +35,7 @@ alternative_suffixes n winner =
 abbrev pub parts_ending : ℕ → ℕ → List (List ℕ)
 parts_ending n c = filter (λ suffix. nat_lt (length suffix) n) (suffixes_ending n (n - 1) (c ∷ []))
 
--- the one suffix stands before the other, both read backwards
+-- the one suffix comes before the other, both read backwards
 abbrev pub comes_before : List ℕ → List ℕ → Bool
 comes_before suffix other = stands_before (reverse suffix) (reverse other)
 

@@ -11,8 +11,8 @@ use std::cmp::Ordering;
 
 /// One of RAIRE's two kinds of assertion, that a winner `w` beats a loser `l`.
 ///
-/// Its variants and fields stand in the fixed order: NEB before NEN, then the smaller winner, then the smaller
-/// loser, then the smaller number of the set.
+/// Its variants and fields follow the fixed order: NEB before NEN, then the smaller winner, then the smaller loser, then the smaller
+/// number of the set.
 #[derive(Clone, Copy, Debug, PartialEq, Eq)]
 pub enum Assertion {
     /// Not eliminated before: `w` always has more votes than `l`, so that `w` isn't eliminated before `l`.
@@ -34,8 +34,8 @@ const BYTE: u64 = 1 << 8;
 const WORD: u64 = 1 << 32;
 
 impl Assertion {
-    /// A number that is the smaller the earlier the assertion stands in the fixed order, so that two are compared at once, and many
-    /// are sorted by it. No two assertions have the same number.
+    /// A number that is smaller for an assertion that comes earlier in the fixed order. With it two are compared at once, and many are
+    /// sorted. No two assertions have the same number.
     #[inline(always)]
     pub fn number(&self) -> u64
         ensures number { result ≡ number_of self.now }
@@ -84,7 +84,7 @@ pub struct Claim {
     pub margin: u32,
 }
 
-/// Whether `a` stands before `b` in the fixed order.
+/// Whether `a` comes before `b` in the fixed order.
 pub fn before(a: &Assertion, b: &Assertion) -> bool
     ensures { result ≡ is_before a.now b.now }
 {

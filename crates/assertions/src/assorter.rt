@@ -27,8 +27,8 @@ fn is_ahead(ranking: &Ranking, l: Candidate, w: Candidate) -> bool
     false
 }
 
-/// The assorter value of a ballot with this ranking, doubled: 2 where it counts for the winner, 0 where it counts
-/// for the loser, and else 1.
+/// The assorter value of a ballot with this ranking, doubled: 2 if it counts for the winner, 0 if it counts for the loser, and 1
+/// otherwise.
 pub fn value_of(a: &Assertion, r: &Ranking) -> u8
     ensures { result ≡ assorter_value a.now r.now }
 {

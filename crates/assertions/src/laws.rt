@@ -21,7 +21,7 @@ pub fn assorter_sums()
     ensures { AssorterSums }
 {}
 
-/// An assertion is true where its margin is above 0.
+/// An assertion is true exactly if its margin is above 0.
 pub fn true_margin()
     ensures { TrueMargin }
 {}
@@ -46,13 +46,13 @@ pub fn fixed_order_is_ord()
     ensures { FixedOrderIsOrd }
 {}
 
-/// The numbers of assertions whose parts have their digits stand as `Ord` has the assertions, and no two have the same.
+/// The numbers of assertions whose parts have their digits compare as `Ord` compares the assertions, and no two have the same.
 pub fn numbers_rise()
     ensures { NumbersRise }
 {}
 
-/// NEB refutes where its loser stands and its winner isn't behind it, NEN where its winner and those behind it are
-/// the rest.
+/// NEB refutes exactly if its loser is there and its winner doesn't come after it, NEN exactly if its winner and those after it are the
+/// rest.
 pub fn refutes_where()
     ensures { RefutesWhere }
 {}
@@ -68,12 +68,12 @@ pub fn cover_is_sound()
     ensures { CoverIsSound }
 {}
 
-/// The orders that end in a suffix are listed, and nothing else is.
+/// The orders that end in a suffix are listed, and nothing besides.
 pub fn orders_ending()
     ensures { OrdersEnding }
 {}
 
-/// The orders that elect another candidate are listed, and nothing else is.
+/// The orders that elect another candidate are listed, and nothing besides.
 pub fn alternative_orders()
     ensures { AlternativeOrders }
 {}
@@ -83,7 +83,7 @@ pub fn alternative_orders_rise()
     ensures { AlternativeOrdersRise }
 {}
 
-/// The suffixes that end in a suffix, and are longer by at most `k`, are listed, and nothing else is.
+/// The suffixes that end in a suffix, and are longer by at most `k`, are listed, and nothing besides.
 pub fn suffixes_ending()
     ensures { SuffixesEnding }
 {}
@@ -145,7 +145,7 @@ pub fn refuter_is_first()
     ensures { RefuterIsFirst }
 {}
 
-/// A suffix has no refuter exactly where its low is 0.
+/// A suffix has no refuter exactly if its low is 0.
 pub fn refuter_or_none()
     ensures { RefuterOrNone }
 {}
@@ -160,7 +160,7 @@ pub fn score_of_none()
     ensures { ScoreOfNone }
 {}
 
-/// An order is possible exactly where nothing true refutes it.
+/// An order is possible exactly if nothing true refutes it.
 pub fn possible_iff_unrefuted()
     ensures { PossibleIffUnrefuted }
 {}
@@ -170,7 +170,7 @@ pub fn best_is_least()
     ensures { BestIsLeast }
 {}
 
-/// A true NEN stands against each order that isn't possible.
+/// A true NEN refutes each order that isn't possible.
 pub fn nen_against_impossible()
     ensures { NenAgainstImpossible }
 {}
@@ -180,22 +180,22 @@ pub fn nothing_against_possible()
     ensures { NothingAgainstPossible }
 {}
 
-/// All possible orders elect a candidate exactly where the least hardness of the others is at least 1.
+/// All possible orders elect a candidate exactly if the least hardness of the others is at least 1.
 pub fn decided_is_positive()
     ensures { DecidedIsPositive }
 {}
 
-/// A contest is decided exactly where the best margin is at least 1.
+/// A contest is decided exactly if the best margin is at least 1.
 pub fn decided_exactly()
     ensures { DecidedExactly }
 {}
 
-/// The bound that a search starts from is 0 exactly where the last two candidates tie.
+/// The bound that a search starts from is 0 exactly if the last two candidates tie.
 pub fn first_bound_is_zero()
     ensures { FirstBoundIsZero }
 {}
 
-/// True claims that cover exist exactly where all possible orders elect the candidate.
+/// True claims that cover exist exactly if all possible orders elect the candidate.
 pub fn proof_iff_decided()
     ensures { ProofIffDecided }
 {}
@@ -230,7 +230,7 @@ pub fn certificate_is_true()
     ensures { CertificateIsTrue }
 {}
 
-/// Where the best margin is above 0, the certificate's assertions refute each alternative order.
+/// If the best margin is above 0, the certificate's assertions refute each alternative order.
 pub fn certificate_covers()
     ensures { CertificateCovers }
 {}
@@ -240,7 +240,7 @@ pub fn certificate_reaches_best()
     ensures { CertificateReachesBest }
 {}
 
-/// Where the best margin is above 0, one of the certificate's assertions has exactly that.
+/// If the best margin is above 0, one of the certificate's assertions has exactly that.
 pub fn certificate_has_best()
     ensures { CertificateHasBest }
 {}
@@ -255,8 +255,8 @@ pub fn certificate_order_is_first()
     ensures { CertificateOrderIsFirst }
 {}
 
-/// Where the best margin is above 0, one of the certificate's assertions refutes a suffix that ends in another candidate
-/// than the winner exactly where its low reaches that.
+/// If the best margin is above 0, one of the certificate's assertions refutes a suffix that ends in another candidate than the winner
+/// exactly if its low reaches that.
 pub fn certificate_refutes()
     ensures { CertificateRefutes }
 {}
@@ -281,7 +281,7 @@ pub fn certificate_is_one()
     ensures { CertificateIsOne }
 {}
 
-/// The certificate is the same in whatever order the records stand.
+/// The certificate is the same for the records in any order.
 pub fn records_in_any_order()
     ensures { RecordsInAnyOrder }
 {}

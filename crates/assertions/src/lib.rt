@@ -1,6 +1,5 @@
-//! RAIRE's assertions about an instant-runoff contest: which elimination orders they refute, the order in which
-//! they are listed, how a ballot counts for them, and their margins. The definitions of hardness and of the canonical
-//! certificate stand here too, with their laws.
+//! RAIRE's assertions about an instant-runoff contest: which elimination orders they refute, the order in which they are listed, how a
+//! ballot counts for them, and their margins. Hardness and the canonical certificate are defined here too, with their laws.
 #![tactic(auto)]
 
 mod assertion;

@@ -6,7 +6,7 @@ use Rattle.manifest.specs.declared.recorded.Recorded.TheVariants.{Ranked, Withou
 use Rattle.assorters.specs.declared.seen.Seen.{Seen}
 use Rattle.assorters.specs.declared.seen.Seen.TheVariants.{Found, Missing}
 
--- 2 where the first is 0, and 0 where it is 1
+-- 2 if the first is 0, and 0 if it is 1
 abbrev pub lead : List ℕ → ℕ
 lead ranking = if is_first ranking 0 then 2 else (if is_first ranking 1 then 0 else 1)
 

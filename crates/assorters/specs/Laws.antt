@@ -8,8 +8,7 @@ use Rattle.manifest.specs.declared.recorded.Recorded.{Recorded}
 use Rattle.assorters.specs.declared.seen.Seen.{Seen}
 use Rattle.assorters.specs.Cards.{IsAssorter, seen_value, margin_over, discrepancies, discrepancy_of}
 
--- the discrepancies of all cards add up to more than 2 each, less the margin, exactly where the seen values add up to more
--- than 1 each
+-- the discrepancies of all cards add up to more than 2 each, less the margin, exactly if the seen values add up to more than 1 each
 abbrev pub ComparisonLaw : Type 0
 ComparisonLaw =
     (value : List ℕ → ℕ) (recorded : List Recorded) (seen : List Seen) → IsAssorter value →
@@ -27,7 +26,7 @@ DiscrepanciesLaw =
     ≡ discrepancies value recorded seen)
     × All (λ d. d ≤ 4) (discrepancies value recorded seen)
 
--- where each ballot has a card, the margin over the linked records is that over the ballots: a card without a record adds nothing
+-- if each ballot has a card, the margin over the linked records is that over the ballots: a card without a record adds nothing
 abbrev pub LinkedMarginLaw : Type 0
 LinkedMarginLaw =
     (value : List ℕ → ℕ) (batches : Batches) (ballots : BallotFile) →

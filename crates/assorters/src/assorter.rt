@@ -1,4 +1,7 @@
 // The assorters.
+//
+// A struct's fact can't cite the calls of a type parameter bounded by `Fn`. So an assorter keeps the closure, and each of its calls asks
+// again that it may be called on every ranking and answers 0, 1 or 2.
 ghost use Rattle.std.specs.Prelude.{◌≡◌, ◌≤◌, ◌*◌, ℕ, List, sum_by};
 ghost use Rattle.assorters.specs.Calls.{AnswersValues, Computes};
 ghost use Rattle.assorters.specs.Cards.{discrepancy, margin_over, recorded_value, seen_value};

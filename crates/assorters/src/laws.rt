@@ -11,7 +11,7 @@ pub fn by_number()
     ensures { DiscrepanciesLaw }
 {}
 
-/// Where each ballot has a card, the margin over the linked records is that over the ballots.
+/// If each ballot has a card, the margin over the linked records is that over the ballots.
 pub fn linked_margin()
     ensures { LinkedMarginLaw }
 {}

@@ -17,14 +17,14 @@ use Rattle.input_files.specs.Refusals.{refused_assertions, refused_manifest}
 abbrev pub more_records : List ℕ → Verdict
 more_records name = Refused name (broken_at (codes "F7") 0)
 
--- a plan over so many cards
+-- a plan over this many cards
 abbrev pub plan_over : PlanTask → ℕ → Content → Verdict
 plan_over task cards file =
     if nat_le file.records cards
     then Answered Done (plan_table file cards task.gamma task.limit)
     else more_records task.assertions
 
--- once the manifest is read, which has so many cards
+-- once the manifest is read, which has this many cards
 abbrev pub after_manifest : PlanTask → ℕ → Script
 after_manifest task cards = Read task.assertions (λ bytes.
     go_on (told (refused_assertions task.assertions) (assertion_file_of bytes)) (λ file.

@@ -5,6 +5,7 @@ ghost use Rattle.irv_base.specs.declared.limits.TheConstants.{MOST_CARDS};
 ghost use Rattle.cli_base.specs.Accounts.{IsAccountedFor};
 ghost use Rattle.cli_base.specs.Begun.{HasCome};
 ghost use Rattle.cli_base.specs.Due.{due, IsOneOrMemory};
+ghost use Rattle.cli_base.specs.Faults.{IsFaultTold};
 ghost use Rattle.cli_base.specs.Script.{ByDesk, Runs};
 ghost use Rattle.command.specs.Plan.{IsWithinLimits};
 ghost use Rattle.audit_commands.specs.Plan.{after_manifest, plan_over, script};
@@ -21,7 +22,7 @@ use std::alloc::Global;
 pub fn answer<D: Desk>(alloc: Global, desk: &mut D, task: &PlanTask) -> Result<Answer, Refusal>
     requires { IsWithinLimits task.now }
     ensures held { D.held desk.new ≡ D.held desk.old }
-    ensures later { D.faults desk.old ≤ D.faults desk.new }
+    ensures faults { IsFaultTold (D.faults desk.old) (D.faults desk.new) (due result).status }
     ensures due { HasCome
         (ByDesk (D.held desk.old) (Rose (D.faults desk.old) (D.faults desk.new)))
         (D.served desk.old) (D.served desk.new)
@@ -33,7 +34,7 @@ pub fn answer<D: Desk>(alloc: Global, desk: &mut D, task: &PlanTask) -> Result<A
     after_manifest(alloc, desk, task, batches.cards())
 }
 
-// The assertions are read, for a plan over so many cards.
+// The assertions are read, for a plan over this many cards.
 fn after_manifest<D: Desk>(
     alloc: Global,
     desk: &mut D,
@@ -43,7 +44,7 @@ fn after_manifest<D: Desk>(
     requires limits { IsWithinLimits task.now }
     requires cards { cards ≤ MOST_CARDS }
     ensures held { D.held desk.new ≡ D.held desk.old }
-    ensures later { D.faults desk.old ≤ D.faults desk.new }
+    ensures faults { IsFaultTold (D.faults desk.old) (D.faults desk.new) (due result).status }
     ensures due { HasCome
         (ByDesk (D.held desk.old) (Rose (D.faults desk.old) (D.faults desk.new)))
         (D.served desk.old) (D.served desk.new)

@@ -4,6 +4,7 @@ ghost use Rattle.desk.specs.Count.{Rose};
 ghost use Rattle.cli_base.specs.Accounts.{IsAccountedFor};
 ghost use Rattle.cli_base.specs.Begun.{HasCome};
 ghost use Rattle.cli_base.specs.Due.{due, IsOneOrMemory};
+ghost use Rattle.cli_base.specs.Faults.{IsFaultTold};
 ghost use Rattle.cli_base.specs.Script.{ByDesk, Runs};
 ghost use Rattle.audit_commands.specs.Sample.{sample_of, script};
 
@@ -15,10 +16,10 @@ use input_files::{bytes_of, manifest_in};
 use manifest::Manifest;
 use std::alloc::Global;
 
-/// The cards of so many draws with the seed.
+/// The cards of this many draws with the seed.
 pub fn answer<D: Desk>(alloc: Global, desk: &mut D, task: &SampleTask) -> Result<Answer, Refusal>
     ensures held { D.held desk.new ≡ D.held desk.old }
-    ensures later { D.faults desk.old ≤ D.faults desk.new }
+    ensures faults { IsFaultTold (D.faults desk.old) (D.faults desk.new) (due result).status }
     ensures due { HasCome
         (ByDesk (D.held desk.old) (Rose (D.faults desk.old) (D.faults desk.new)))
         (D.served desk.old) (D.served desk.new)

@@ -1,5 +1,6 @@
 -- The smallest margin of an accepted file is the best, so no other set needs fewer clean draws.
-use Rattle.std.proofs.Common.{ℕ, ◌≤◌, List, get_or, All, Contains, refl, arith}
+use Rattle.std.proofs.Common.{ℕ, ◌≤◌, List, Option, Some, None, get_or, All, Contains, refl, arith}
+use Rattle.std.specs.Prelude.{IfSome, IsSome}
 use Rattle.std.proofs.lemmas.List.Elements.{All-contains}
 use Rattle.budget.specs.declared.budget.Budget.{Budget}
 use Rattle.assertions.specs.declared.assertion.Assertion.{Assertion}
@@ -27,8 +28,12 @@ module _ (budget : Budget) (cards gamma : ℕ) (ballots : BallotFile) (file : Co
   weakest =
       let (a, among, most) = none_beats_best (candidate_count file) file.winner ballots.rankings others sound.winner (omega (arith, sound.fewest))
       rival.others_prove.proper rival.others_prove.covering in
-      let best = accepted_margin_is_best budget ballots file sound rival.accepted in
+      let best = by file.order rival.ordered (accepted_margin_is_best budget ballots file sound rival.accepted) in
       (a, among, λ j d below. let least = held.smallest j d below in omega (arith, most, best, least))
+    where
+      by : {P : Type 0} (order : Option (List ℕ)) → IsSome order → IfSome order (λ _. P) → P
+      by None some h = absurd cc
+      by (Some order) some h = h
 
   pub margin-within : All (λ claim. (1 ≤ claim.margin) × (claim.margin ≤ cards)) file.claims
   margin-within j d below =

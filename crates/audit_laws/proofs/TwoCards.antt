@@ -126,6 +126,7 @@ counted = refl
 pub rival : IsRival (Nodes 10) 2 500 two_ballots two_file other_proof
 rival = record {
   file_sound = file;
+  ordered = refl;
   accepted = accepted;
   enough_cards = omega arith;
   positive = omega arith;

@@ -1,4 +1,4 @@
--- What the risk limit asks of assertions: they prove the winner where they are true, and have their margins over the linked records.
+-- What the risk limit asks of assertions: they prove the winner if they are true, and have their margins over the linked records.
 use Rattle.std.specs.Prelude.{ℕ, ◌<◌, List, map, IsTrue}
 use Rattle.std.specs.List.{list_all}
 use Rattle.assertions.specs.declared.assertion.Assertion.{Assertion}

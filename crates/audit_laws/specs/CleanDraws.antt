@@ -1,5 +1,5 @@
 -- The fewest clean draws: draws of cards that are all seen as recorded.
-use Rattle.std.specs.Prelude.{ℕ, ◌*◌, ◌≤◌, List, length, All, Contains, IfSome, IsSomeAnd, Ok, IsTrue}
+use Rattle.std.specs.Prelude.{ℕ, ◌*◌, ◌≤◌, List, length, All, Contains, IfSome, IsSome, IsSomeAnd, Ok, IsTrue}
 use Rattle.std.specs.List.{list_all}
 use Rattle.budget.specs.declared.budget.Budget.{Budget}
 use Rattle.assertions.specs.declared.assertion.Assertion.{Assertion}
@@ -21,10 +21,11 @@ pub record ProveWinner (n winner : ℕ) (records : List (List ℕ))
   pub hold : IsTrue (list_all (is_true records) assertions)
   pub covering : IsTrue (covers n winner assertions)
 
--- ballots of so many cards at most, a file that the check accepts, gamma above 0, and another set that proves its winner
+-- ballots of at most this number of cards, a file with an order that the check accepts, gamma above 0, and another set that proves its winner
 pub record IsRival (budget : Budget) (cards gamma : ℕ) (ballots : BallotFile) (file : Content)
     (others : List Assertion) : Type 0 where
   pub file_sound : IsSound file
+  pub ordered : IsSome file.order
   pub accepted : IsAnswer budget ballots file (Ok Accepted)
   pub enough_cards : length ballots.rankings ≤ cards
   pub positive : 1 ≤ gamma
@@ -43,8 +44,8 @@ FewestCleanDraws =
     All (λ a. AreEnough cards gamma limit k (true_margin ballots.rankings a)) others →
     All (λ claim. AreEnough cards gamma limit k claim.margin) file.claims
 
--- as clean draws are printed, with none where no number up to the cards and the most draws is enough: some assertion of the other
--- set needs at least as many as any of the file
+-- as clean draws are printed, with none if no number up to the cards and the most draws is enough: some assertion of the other set needs
+-- at least as many as any of the file
 abbrev pub NeedsNoMore : Type 0
 NeedsNoMore =
     (budget : Budget) (cards gamma limit : ℕ) (ballots : BallotFile) (file : Content)

@@ -1,4 +1,4 @@
--- What the risk limit stands on.
+-- What the risk limit follows from.
 use Rattle.std.specs.Prelude.{◌≡◌, ◌≢◌, ℕ, ◌*◌, ◌^◌, ◌≤◌, List, length, sum_by, count_by, Contains, None, IsTrue}
 use Rattle.std.specs.List.{range_with_len}
 use Rattle.irv_base.specs.Orders.{is_order}
@@ -40,15 +40,14 @@ HeldIsAuditable =
     (batches : Batches) (ballots : BallotFile) (file : FileContent) →
     FitTogether batches ballots file → AreAuditable file (linked_of batches ballots)
 
--- where the actual rankings may elect another candidate, an assertion of each cover isn't true of them: its values are at most 1 in
--- the mean
+-- if the actual rankings may elect another candidate, an assertion of each cover isn't true of them: its values have a mean of at most 1
 abbrev pub SomeIsUntrue : Type 0
 SomeIsUntrue =
     (n winner cards : ℕ) (assertions : List Assertion) (actual : List (List ℕ)) →
     Cover n winner assertions → MayElectAnother n winner cards actual →
     (a : Assertion) × Contains assertions a × (sum_by (assorter_value a) actual ≤ length actual)
 
--- the risk limit holds of such claims, whoever made them
+-- the risk limit holds for such claims, however they were made
 abbrev pub ClaimsRiskLimit : Type 0
 ClaimsRiskLimit =
     (limit gamma draws : ℕ) (file : FileContent) (recorded : List Recorded)
@@ -58,7 +57,7 @@ ClaimsRiskLimit =
     AreSignedOff limit gamma (audited file) recorded actual draws signed →
     length signed * millionths_in_one ≤ limit * length recorded ^ draws
 
--- the risk limit as a count of the listed sequences, where what is read of the cards is fixed before anything is drawn
+-- the risk limit as a count of the listed sequences, if what is read of the cards is fixed before anything is drawn
 abbrev pub CountedRiskLimit : Type 0
 CountedRiskLimit =
     (limit gamma draws : ℕ) (file : FileContent) (recorded : List Recorded)
@@ -89,7 +88,7 @@ OtherWinnerIsWrong =
     IsWinner n actual other → other ≢ winner →
     MayElectAnother n winner cards actual
 
--- where each possible order of the actual rankings elects another candidate, one does: there is always a possible order
+-- if each possible order of the actual rankings elects another candidate, one does: there is always a possible order
 abbrev pub EachElectsAnother : Type 0
 EachElectsAnother =
     (n winner cards : ℕ) (actual : List (List ℕ)) → length actual ≡ cards →

@@ -1,18 +1,18 @@
--- The risk limit of an audit: `RiskLimit`, at the end, is what is promised; the records before it are the premises. What the terms
--- are (`AreTerms`) and what is counted (`AreSignedOff`) stands in `session_state/specs/RiskOfValues.antt`, for claims of any kind.
+-- The risk limit of an audit. `RiskLimit`, the last record, is the promise; the records before it are the premises. The terms
+-- (`AreTerms`) and what is counted (`AreSignedOff`) are defined in `session_state/specs/RiskOfValues.antt`, for claims of any kind.
 --
--- Ballots, a manifest of the cards and an assertion file are published. Cards are drawn by their numbers, each time from all of
--- them; a drawn card is looked for, its ranking is read by hand, and it is compared with its record. At the end of a round the
--- audit may be signed off. Suppose that the cards don't elect the winner of the file, or that a tie among them could be broken so
--- that they don't. Then of all sequences of n cards those are few on which the audit can be signed off, at whichever draw.
+-- Ballots, a manifest of the cards and an assertion file are published. Cards are drawn by their numbers, each time from all of them. A
+-- drawn card is looked for, its ranking is read by hand, and it is compared with its record. At the end of a round the audit may be
+-- signed off. Suppose that the cards don't elect the winner of the file, or that a tie among them could be broken so that they don't.
+-- Then the audit can be signed off, at any draw, on few of all sequences of n cards.
 --
--- Files, limit and gamma are given first, and the sequences are counted after: so in an audit they are fixed and published before
--- the seed is known. Two choices of gamma together sign off more sequences than either: of two cards that are recorded for one
--- candidate and in truth a tie, at a limit of 250,600 millionths and seven draws, 32 and 12, and one or the other 34 of 128, where
--- the limit allows 32. There is one seed: an audit that is begun anew with another one is the same audit's second try. Where the
--- rounds end may be left open.
+-- Files, limit and gamma are given first, and the sequences are counted after: so in an audit they are fixed and published before the
+-- seed is known. Two choices of gamma together sign off more sequences than either alone. Take two cards that are recorded for one
+-- candidate and are in truth a tie, a limit of 250,600 millionths and seven draws: one gamma signs off 32 of 128 sequences, another 12,
+-- and one or the other 34, but the limit allows 32. There is one seed: an audit that begins again with another seed is the same audit's
+-- second try. The ends of the rounds may be left open.
 --
--- It is a count, and speaks of no chance: that one sequence is drawn as easily as another is up to the seed.
+-- It is a count, and says nothing about chance: that every sequence is drawn as easily as every other is up to the seed.
 use Rattle.std.specs.Prelude.{◌≢◌, ◌≡◌, ℕ, ◌*◌, ◌^◌, ◌≤◌, List, length, None, Ok, IsTrue}
 use Rattle.budget.specs.declared.budget.Budget.{Budget}
 use Rattle.irv_base.specs.Orders.{is_order, Elects}
@@ -53,7 +53,7 @@ pub record MayElectAnother (n winner cards : ℕ) (actual : List (List ℕ)) : T
 
 -- ---- what is promised
 
--- of all cards ^ n sequences, those are at most limit millionths on which a session of the file's claims may be signed off
+-- of all cards ^ n sequences, at most limit millionths are such that a session of the file's claims may be signed off on them
 abbrev pub RiskLimit : Type 0
 RiskLimit =
     (budget : Budget) (limit gamma n : ℕ) (batches : Batches) (ballots : BallotFile) (file : Content)

@@ -1,4 +1,4 @@
-//! Worked examples: a wrong winner that meets all that the risk limit asks, and a set of assertions beside that of a file.
+//! Worked examples: a wrong winner that meets all that the risk limit asks, and a second set of assertions for the winner of a file.
 ghost use Rattle.std.specs.Prelude.{◌≡◌, ◌<◌, ◌*◌, [], ◌∷◌, count_by, None, Some};
 ghost use Rattle.std.specs.List.{range_with_len};
 ghost use Rattle.budget.specs.declared.budget.Budget.TheVariants.{Nodes};

@@ -4,8 +4,8 @@ ghost use Rattle.audit_laws.specs.Laws.{ClaimsRiskLimit, CountedRiskLimit, EachE
 ghost use Rattle.audit_laws.specs.Laws.{HeldIsAuditable, HeldRiskLimit, OtherWinnerIsWrong, SomeIsUntrue};
 ghost use Rattle.audit_laws.specs.RiskLimit.{RiskLimit};
 
-/// Where the actual rankings of the cards may elect another candidate than the published file says, the audit can be signed
-/// off on at most `limit` millionths of all sequences of `n` cards.
+/// If the actual rankings of the cards may elect another candidate than the published file says, the audit can be signed off on at most
+/// `limit` millionths of all sequences of `n` cards.
 pub fn risk_limit()
     ensures { RiskLimit }
 {}
@@ -15,22 +15,22 @@ pub fn held_risk_limit()
     ensures { HeldRiskLimit }
 {}
 
-/// The claims of a file that holds prove the winner where they are true, and have their margins over the linked records.
+/// The claims of a file that holds prove the winner if they are true, and have their margins over the linked records.
 pub fn held_is_auditable()
     ensures { HeldIsAuditable }
 {}
 
-/// Where the actual rankings may elect another candidate, some assertion of each cover isn't true of them.
+/// If the actual rankings may elect another candidate, some assertion of each cover isn't true of them.
 pub fn some_is_untrue()
     ensures { SomeIsUntrue }
 {}
 
-/// The risk limit of such claims, whoever made them.
+/// The risk limit of such claims, however they were made.
 pub fn claims_risk_limit()
     ensures { ClaimsRiskLimit }
 {}
 
-/// The same as a count of the listed sequences, where the readings of the cards don't depend on the draws.
+/// The same as a count of the listed sequences, if the readings of the cards don't depend on the draws.
 pub fn counted_risk_limit()
     ensures { CountedRiskLimit }
 {}
@@ -45,7 +45,8 @@ pub fn each_elects_another()
     ensures { EachElectsAnother }
 {}
 
-/// Clean draws that are enough for some true set of assertions which proves the winner are enough for the accepted file.
+/// Clean draws that are enough for some true set of assertions which proves the winner are enough for the accepted file, if it has an
+/// order.
 pub fn fewest_clean_draws()
     ensures { FewestCleanDraws }
 {}

@@ -12,7 +12,7 @@ use Rattle.km_risk.specs.Counts.{clean}
 abbrev pub claim_of : ℕ → Claim
 claim_of margin = record { assertion = Neb 0 1; margin = margin }
 
--- of candidates A and B, with such a claim for each of these margins
+-- for candidates A and B, with such a claim for each of these margins
 abbrev pub file_of : List ℕ → FileContent
 file_of margins = record (files.led_by 1 12) {
   candidates = codes "A" ∷ codes "B" ∷ [];

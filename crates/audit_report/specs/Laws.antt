@@ -4,7 +4,7 @@ use Rattle.assertions.specs.declared.assertion.Claim.{Claim}
 use Rattle.assertion_file.specs.Content.{Content}
 use Rattle.audit_report.specs.Plan.{all_need, need_of}
 
--- What all need is a full count only where one has it, and else the least number that no one needs more than.
+-- All together need a full count only if one does; otherwise the greatest number of draws that one needs.
 abbrev pub AllNeedLaw : Type 0
 AllNeedLaw =
     (needs : List (Option ℕ)) →

@@ -7,7 +7,7 @@ use Rattle.assertion_file.specs.Content.{Content}
 use Rattle.km_risk.specs.Clean.{clean_draws}
 use Rattle.report.specs.Texts.{assertion_text}
 
--- a number of draws, or a full count where no number that is tried is enough
+-- a number of draws, or a full count if no number that is tried is enough
 abbrev pub need_text : Option ℕ → List ℕ
 need_text None = codes "full count"
 need_text (Some draws) = decimal draws ++ codes " draws"
@@ -32,7 +32,7 @@ claim_line ids claim need =
 abbrev pub last_line : Option ℕ → List ℕ
 last_line need = codes "all: " ++ need_text need ++ codes "\n"
 
--- over a manifest of so many cards; gamma is in thousandths, the limit in millionths
+-- over a manifest of this many cards; gamma is in thousandths, the limit in millionths
 module _ (file : Content) (cards gamma limit : ℕ) where
   -- the draws without a discrepancy that confirm the claim
   abbrev pub need_of : Claim → Option ℕ

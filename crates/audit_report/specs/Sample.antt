@@ -20,6 +20,6 @@ line_of_draw batches seed k =
     let card = drawn_card seed k (length (cards_of batches)) in
     draw_line k card (id_of_card batches card)
 
--- so many draws
+-- this many draws
 abbrev pub sample_table : Batches → List ℕ → ℕ → List ℕ
 sample_table batches seed draws = flat_map (line_of_draw batches seed) (range_with_len 1 draws)

@@ -1,4 +1,4 @@
--- What a session tells: its values, and its rounds with the counts and the risk of each claim.
+-- What is printed of a session: its values, and its rounds with the counts and the risk of each claim.
 use Rattle.std.specs.Prelude.{ℕ, ◌+◌, Bool, List, [], ◌∷◌, ◌++◌, length, flat_map, slice_index, slice_index_or, codes}
 use Rattle.std.specs.Fmt.{decimal}
 use Rattle.std.specs.List.{range_with_len}

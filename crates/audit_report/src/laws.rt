@@ -1,7 +1,7 @@
 //! The laws of these texts: each holds of every value that it names, and has no code.
 ghost use Rattle.audit_report.specs.Laws.{AllNeedLaw, ClosestClaimLaw};
 
-/// All claims need the greatest number of draws that one of them needs, and a full count where one has it.
+/// All claims together need the greatest number of draws that one of them needs, and a full count if one needs it.
 pub fn all_need()
     ensures { AllNeedLaw }
 {}

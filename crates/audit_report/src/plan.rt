@@ -27,7 +27,7 @@ fn add_margin(text: &mut String, assertion: &str, margin: u32) -> Result<(), All
     write!(text, "{assertion} margin {margin}: ")
 }
 
-// Adds the line of a claim that needs so many draws.
+// Adds the line of a claim that needs this many draws.
 fn add_claim(
     alloc: Global,
     text: &mut String,
@@ -61,9 +61,9 @@ fn both_need(need: Option<u32>, other: Option<u32>) -> Option<u32>
     Some(need?.max(other?))
 }
 
-/// A line for each assertion of the file: the draws without a discrepancy that confirm it, over a manifest of so many cards, with
-/// gamma in thousandths and the limit in millionths; or a full count, where neither as many draws as there are cards nor
-/// `MOST_DRAWS` are enough. The last line tells what all of them take.
+/// A line for each assertion of the file: the draws without a discrepancy that confirm it, over a manifest of this many cards, with gamma
+/// in thousandths and the limit in millionths; or a full count, if neither as many draws as there are cards nor `MOST_DRAWS` are enough.
+/// The last line says what all of them take.
 pub fn plan_table(
     alloc: Global,
     f: &AssertionFile,

@@ -32,8 +32,8 @@ fn add_draw(text: &mut String, m: &Manifest, k: u32, number: u32) -> Result<(), 
     add_line(text, k, number, card.batch.text(), card.k)
 }
 
-/// A line for each of so many draws with the seed: its number, counted from 1, the number of the card that it takes, and that
-/// card's id, with a comma between each two.
+/// A line for each of this many draws with the seed: its number, counted from 1, the number of the card that it takes, and that card's
+/// id, with a comma between each two.
 pub fn sample_table(alloc: Global, m: &Manifest, seed: &Seed, draws: u32) -> Result<Vec<u8>, Memory>
     ensures { IfOk result (λ text. text.items ≡ sample_table m.now seed.now draws) }
 {

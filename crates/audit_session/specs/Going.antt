@@ -31,7 +31,7 @@ seen_at seen card = slice_index_or seen (card - 1) Missing
 abbrev pub seen_card : List Seen → ℕ → SeenCard
 seen_card seen card = record { card = card; seen = seen_at seen card }
 
--- the session with a round to so many draws: of claims with these values, and the session's margins
+-- the session with a round up to this number of draws: for claims with these values, and the session's margins
 abbrev pub next_session :
     Content → List (List ℕ → ℕ) → List Recorded → List Entry → ℕ → Content
 next_session content values recorded entries draws =
@@ -52,10 +52,10 @@ compared value drawn = discrepancy value drawn.recorded drawn.seen
 abbrev pub counts_over : (List ℕ → ℕ) → List Drawn → Counts
 counts_over value drawn = counts_of (map (compared value) drawn)
 
--- of each claim
+-- for each claim
 abbrev pub all_counts : List (List ℕ → ℕ) → List Drawn → List Counts
 all_counts values drawn = map (λ value. counts_over value drawn) values
 
--- of the claim with this index, counted from 0
+-- for the claim with this index, counted from 0
 abbrev pub value_at : List (List ℕ → ℕ) → ℕ → List ℕ → ℕ
 value_at values j = slice_index_or values j (λ ranking. 0)

@@ -43,7 +43,7 @@ pub record GoesOn (content : Content) (values : List (List ℕ → ℕ)) (record
   pub each : length content.session.margins ≡ length values
   pub assorters : All IsAssorter values
   pub some : 1 ≤ draws
-  -- this is what `advance_by` promises where it answers
+  -- this is what `advance_by` promises if it answers
   pub not_refused : refusal content values recorded entries draws ≡ None
 
 -- a session that has gone on and is signed off is counted

@@ -33,7 +33,7 @@ module _ (seed : List ℕ) (cards : ℕ) (entries : List Entry) (draws : ℕ) wh
   abbrev pub without_record : Option AdvanceFault
   without_record = option_map (λ k. NoRecord (drawn_card seed k cards) k) unseen_draw
 
-  -- it is told of that draw; memory may always be wanting
+  -- it names that draw; memory may always be short
   abbrev pub IsUnseen : Unseen → Type 0
   IsUnseen (NoRecordOf card k) = (unseen_draw ≡ Some k) × (card ≡ drawn_card seed k cards)
   IsUnseen WantOfMemory = Unit {0}

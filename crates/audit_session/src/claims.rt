@@ -8,8 +8,7 @@ use assertion_file::AssertionFile;
 use assertions::value_of;
 use irv_base::Ranking;
 
-/// Claims about a contest, each a function of rankings whose values are 0, 1 and 2: it is true where they are more than
-/// 1 in the mean.
+/// Claims about a contest, each a function of rankings whose values are 0, 1 and 2: it is true if their mean is more than 1.
 pub trait Claims {
     /// The function of each claim.
     ghost values: { Self → List (List ℕ → ℕ) };

@@ -39,7 +39,7 @@ fn counted(counts: Counts, d: u8) -> Counts
     }
 }
 
-// So many more draws that are seen as recorded.
+// This many more draws that are seen as recorded.
 fn with_alike(counts: Counts, alike: usize) -> Counts
     requires { draws_in counts + alike < 2 ^ 31 }
     ensures { result ≡ record counts { n2 = counts.n2 + alike } }
@@ -50,7 +50,7 @@ fn with_alike(counts: Counts, alike: usize) -> Counts
     }
 }
 
-// The counts of the claim with this index, with these draws behind those that were counted before.
+// The counts of the claim with this index, with these draws after those that were counted before.
 fn counts_over<T: Claims>(before: Counts, claims: &T, j: u64, drawn: &[Drawn]) -> Counts
     requires claim { j < length (T.values claims.now) }
     requires few { draws_in before + length drawn.now < 2 ^ 31 }
@@ -66,8 +66,8 @@ fn counts_over<T: Claims>(before: Counts, claims: &T, j: u64, drawn: &[Drawn]) -
     counts
 }
 
-/// The counts of each claim, with these draws behind those that were counted before. Cards that are seen as they are recorded are
-/// counted once for all claims, and only the others for each.
+/// The counts of each claim, with these draws after those that were counted before. Cards that are seen as they are recorded are counted
+/// once for all claims, and only the others for each.
 pub fn all_counts<T: Claims>(
     alloc: Global,
     claims: &T,
@@ -80,7 +80,7 @@ pub fn all_counts<T: Claims>(
         → before.now ≡ all_counts (T.values claims.now) earlier
         → all.items ≡ all_counts (T.values claims.now) (earlier ++ drawn.now)) }
 {
-    // Asked for what its contract tells: the values of the claims are 0, 1 and 2.
+    // Asks for what its contract says: the values of the claims are 0, 1 and 2.
     let _count = claims.count();
     let odd = odd_among(alloc, drawn)?;
     let alike = drawn.len() - odd.len();

@@ -58,7 +58,7 @@ pub fn counts_before<T: Claims>(
     ensures same { IfOk result (λ _. changed_from (T.values claims.now) drawn.now 1 rounds.now ≡ None) }
     ensures refused { IfErr result (Refuses (changed_from (T.values claims.now) drawn.now 1 rounds.now)) }
 {
-    // Asked for what its contract tells: the values of the claims are 0, 1 and 2.
+    // Asks for what its contract says: the values of the claims are 0, 1 and 2.
     let _count = claims.count();
     let mut counts = none_counted(alloc, claims)?;
     let mut from = 0;

@@ -13,7 +13,7 @@ use std::fmt;
 /// Why a session doesn't go on.
 #[derive(Clone, Copy, Debug, PartialEq, Eq)]
 pub enum AdvanceFault {
-    /// The last round had so many draws already.
+    /// The last round had this many draws already.
     Smaller {
         had: u32,
     },

@@ -18,7 +18,7 @@ use seen_file::SeenCards;
 use session_state::{DoneRound, Session, signed_off};
 use std::alloc::Global;
 
-// The round up to so many draws, in all, or why there is none.
+// The round up to this number of draws, in all, or why there is none.
 fn next_round<T: Claims>(
     alloc: Global,
     s: &Session,
@@ -40,7 +40,7 @@ fn next_round<T: Claims>(
     ensures refused { IfErr result
         (Refuses (refusal s.now (T.values claims.now) l.now seen.now draws)) }
 {
-    // Asked for what their contracts tell: the session is sound, and the values of the claims are 0, 1 and 2.
+    // Asks for what their contracts say: the session is sound, and the values of the claims are 0, 1 and 2.
     let _cards = s.cards();
     let _count = claims.count();
     let had = last_draws(s.rounds());
@@ -62,12 +62,11 @@ fn next_round<T: Claims>(
     Ok(round)
 }
 
-/// Adds the round up to so many draws, in all, and tells whether the session is signed off then.
+/// Adds the round up to this number of draws, in all, and answers whether the session is signed off then.
 ///
-/// It is refused, in this order: where there aren't more draws than at the last round; where the
-/// card of a draw has no record of what is seen, the first such draw; where the cards seen don't
-/// give the counts of an earlier round, the first such round, and its first such claim. A session
-/// that is refused stays as it is.
+/// It is refused, in this order: if there aren't more draws than at the last round; if the card of a draw has no record of what is seen,
+/// at the first such draw; if the cards seen don't give the counts of an earlier round, at the first such round, and its first such
+/// claim. A session that is refused stays as it is.
 pub fn advance_by<T: Claims>(
     alloc: Global,
     s: &mut Session,
@@ -94,7 +93,7 @@ pub fn advance_by<T: Claims>(
         (Refuses (refusal s.old (T.values claims.now) l.now seen.now draws)) }
     ensures kept { OnErr result (s.new ≡ s.old) }
 {
-    // Asked for what their contracts tell: the session is sound, and the values of the claims are 0, 1 and 2.
+    // Asks for what their contracts say: the session is sound, and the values of the claims are 0, 1 and 2.
     let _cards = s.cards();
     let _count = claims.count();
     let round = next_round(alloc, s, l, claims, seen, draws)?;
@@ -102,13 +101,12 @@ pub fn advance_by<T: Claims>(
     Ok(signed_off(s))
 }
 
-/// Adds the round up to so many draws, in all, and tells whether the session is signed off then: the claims are those of
-/// an assertion file.
+/// Adds the round up to this number of draws, in all, and answers whether the session is signed off then: the claims are those of an
+/// assertion file.
 ///
-/// It is refused, in this order: where there aren't more draws than at the last round; where the
-/// card of a draw has no record of what is seen, the first such draw; where the cards seen don't
-/// give the counts of an earlier round, the first such round, and its first such claim. A session
-/// that is refused stays as it is.
+/// It is refused, in this order: if there aren't more draws than at the last round; if the card of a draw has no record of what is seen,
+/// at the first such draw; if the cards seen don't give the counts of an earlier round, at the first such round, and its first such
+/// claim. A session that is refused stays as it is.
 pub fn advance(
     alloc: Global,
     s: &mut Session,

@@ -20,7 +20,7 @@ pub struct SeenCard {
     pub seen: Seen,
 }
 
-/// Why there is nothing to be told of the drawn cards.
+/// Why nothing can be said of the drawn cards.
 #[derive(Clone, Copy, Debug, PartialEq, Eq)]
 pub enum Unseen {
     /// The card of draw `k` has no record among the seen.
@@ -50,7 +50,7 @@ impl<T: Drop> From<AllocFailed<T>> for Unseen {
     }
 }
 
-/// The cards of the first draws from so many, with what is seen of each, or the first draw whose card has no record.
+/// The cards of the first draws, out of this many cards, with what is seen of each, or the first draw whose card has no record.
 pub fn drawn_seen(
     alloc: Global,
     seed: &Seed,

@@ -23,6 +23,8 @@ mod one_card;
 #[cfg(test)]
 mod poll_command_tests;
 #[cfg(test)]
+mod poll_each_tests;
+#[cfg(test)]
 mod polling_tests;
 #[cfg(test)]
 mod reading;

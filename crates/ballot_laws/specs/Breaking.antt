@@ -65,7 +65,7 @@ ballot_rule contests before row = first_broken (ballot_rules contests before row
 
 -- ---- the first record that breaks one
 
--- none of the rows breaks a rule, where this is the rule that one breaks behind others
+-- none of the rows breaks a rule, if this is the rule that one breaks after others
 abbrev pub AreUnbroken : (List Fields → Fields → Option BRule) → List Fields → Type 0
 AreUnbroken broken rows =
     (k : ℕ) (row : Fields) → slice_get rows k ≡ Some row → broken (take k rows) row ≡ None
@@ -118,7 +118,7 @@ pub record BreaksChoice
   pub has : HasContests rows
   pub refused : choice_refused rows (asked_place asked (contests rows)) ≡ Some (rule, at)
 
--- the ballots begin behind the contests, and those of every contest are judged
+-- the ballots begin after the contests, and those of every contest are judged
 pub record BreaksBallot
     (asked : Option Id) (rows : List Fields) (rule : BRule) (at : ℕ) : Type 0 where
   pub has : HasContests rows

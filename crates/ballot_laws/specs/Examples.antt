@@ -7,7 +7,7 @@ use Rattle.ballot_reader.specs.Ballots.{BallotFile}
 abbrev pub count_of : List ℕ → Fields
 count_of number = number ∷ []
 
--- Ash and Birch stand for mayor
+-- Ash and Birch run for mayor
 abbrev pub mayor : Fields
 mayor = codes "Contest" ∷ codes "mayor" ∷ codes "2" ∷ codes "Ash" ∷ codes "Birch" ∷ []
 

@@ -14,11 +14,11 @@ use Rattle.manifest.specs.Spelling.{number_or_0}
 abbrev pub record_at : List Fields → ℕ → Fields
 record_at rows at = slice_index_or rows (at - 1) []
 
--- the field behind so many; one that isn't there is empty
+-- the field after this many; one that isn't there is empty
 abbrev pub field : Fields → ℕ → List ℕ
 field row i = slice_index_or row i []
 
--- the number that is written so; 0 where none is
+-- the number that is written so; 0 if there is none
 abbrev pub number_in : List ℕ → ℕ
 number_in text = number_or_0 (number_of text)
 
@@ -81,7 +81,7 @@ place_of_only [] = None
 place_of_only (contest ∷ []) = Some 2
 place_of_only (contest ∷ next ∷ rest) = None
 
--- the number of the record of the contest that is asked for, or, where none is, of the only one
+-- the number of the record of the contest that is asked for, or of the only one if none is
 abbrev pub asked_place : Option Id → List Fields → Option ℕ
 asked_place None contests = place_of_only contests
 asked_place (Some id) contests =

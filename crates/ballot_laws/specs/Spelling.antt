@@ -83,7 +83,7 @@ pub record Has (rows : List Fields) (own : ℕ) (file : BallotFile) : Type 0 whe
       IsBallot (record_at rows (slice_index_or file.places i 0)) file.contest file.candidates
       (slice_index_or file.ids i []) (slice_index_or file.rankings i [])
 
--- the contest is the one that is asked for, or, where none is, the only one
+-- the contest is the one that is asked for, or the only one if none is
 pub record Spells (asked : Option Id) (rows : List Fields) (file : BallotFile) : Type 0 where
   pub contests_are : AreContests rows
   pub own : ℕ

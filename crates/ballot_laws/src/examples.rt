@@ -27,7 +27,7 @@ pub fn all_contests_of_a_file()
     ensures board { ballots_from (Some (codes "board")) two_contests ≡ Ok for_board }
 {}
 
-/// Where one contest has too few candidates, all are refused at its record, before a ballot is judged. The other is read by its id.
+/// If one contest has too few candidates, all are refused at its record, before a ballot is judged. The other is read by its id.
 pub fn one_contest_of_several_is_refused()
     ensures all { contests_from one_too_small ≡ refused B3 3 }
     ensures board { ballots_from (Some (codes "board")) one_too_small ≡ refused B3 3 }
@@ -63,7 +63,7 @@ pub fn audited()
         ∷ (codes "Contest" ∷ codes "mayor" ∷ codes "1" ∷ codes "Ash" ∷ []) ∷ []) B3 2 }
 {}
 
-/// The records of ballots, each behind those of `two_contests`: the seventh.
+/// The records of ballots, each after those of `two_contests`: the seventh.
 pub fn ballots()
     ensures short { IsRefused (Some (codes "mayor")) (and_then_comes (codes "mayor" ∷ [])) B6 7 }
     ensures no_id { IsRefused (Some (codes "mayor"))
@@ -82,13 +82,13 @@ pub fn ballots()
         ≡ codes "Ash" ∷ [] }
 {}
 
-/// A file has up to `MOST_RECORDS` ballots: whatever comes behind so many, breaks B10 first.
+/// A file has up to `MOST_RECORDS` ballots: whatever comes after this many breaks B10 first.
 pub fn most_ballots()
     ensures { (contests before : List Fields) (row : Fields) →
         length before ≡ MOST_RECORDS → ballot_rule contests before row ≡ Some B10 }
 {}
 
-/// How records are written: a line each, with quotes where a field has some. A blank record has no number.
+/// How records are written: a line each, with quotes if a field has some. A blank record has no number.
 pub fn writing()
     ensures lines { written ((codes "1" ∷ []) ∷ (codes "a b" ∷ [] ∷ codes "\"" ∷ []) ∷ [])
         ≡ codes "1\na b,,\"\"\"\"\n" }

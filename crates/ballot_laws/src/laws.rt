@@ -6,7 +6,7 @@ ghost use Rattle.ballot_laws.specs.Manifests.{BytesSpellBatches, FirstBrokenRule
 ghost use Rattle.ballot_laws.specs.Sound.{ReadIsSound};
 ghost use Rattle.ballot_laws.specs.Spelling.{RecordsSpellFile};
 
-/// Records are read as a file exactly where they spell it, and bytes exactly where their records do.
+/// Records are read as a file exactly if they spell it, and bytes exactly if their records do.
 pub fn records_spell_file()
     ensures records { RecordsSpellFile }
     ensures bytes { BytesSpellFile }
@@ -43,7 +43,7 @@ pub fn spelling_is_read()
     ensures { SpellingIsRead }
 {}
 
-/// Bytes are read as batches exactly where their records spell them, and refused by the first rule that one breaks.
+/// Bytes are read as batches exactly if their records spell them, and refused by the first rule that one breaks.
 pub fn manifest_bytes()
     ensures spelled { BytesSpellBatches }
     ensures refused { FirstBrokenRuleRefusesManifest }

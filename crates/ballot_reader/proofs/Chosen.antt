@@ -1,39 +1,14 @@
 -- Preferences that are read one after the other.
 use Rattle.std.proofs.Common.{◌≡◌, ◌++◌, ◌∷◌, [], ◌∙◌, ◌||◌, ◌==◌, ℕ, true, false, Option, Some, None, List, length, refl, sym, ap, inl, inr, arith}
 use Rattle.std.specs.Prelude.{option_map, is_some, filter}
-use Rattle.std.specs.List.{list_all, list_any}
 use Rattle.std.proofs.lemmas.Nat.Bits.{bit_at-zero}
-use Rattle.std.proofs.lemmas.Bool.{and_parts, cases_Bool, both_ways, eqb-true, eqb-false}
+use Rattle.std.proofs.lemmas.Bool.{cases_Bool, both_ways, eqb-true, eqb-false}
 use Rattle.irv_base.specs.Candidates.{has, is_in}
-use Rattle.irv_base.specs.Names.{Id, is_name, is_same, is_among, all_differ, candidate_named}
+use Rattle.irv_base.specs.Names.{Id, candidate_named}
 use Rattle.irv_base.specs.Records.{firsts}
 use Rattle.irv_base.proofs.Firsts.{firsts-again, firsts-more, is_in-push}
-use Rattle.ballot_reader.specs.Grammar.{all_of, are_names, is_marked, ranking_of}
+use Rattle.ballot_reader.specs.Grammar.{all_of, is_marked, ranking_of}
 use Rattle.ballot_reader.proofs.AllOf.{behind, behind-more, behind-none, behind-end}
-use Rattle.ballot_reader.proofs.Differing.{among-set}
-use Rattle.irv_base.proofs.Positions.{some_position}
-
--- ---- an id among names
-
-same-name : (a b : Id) → is_same a b ≡ true → is_name b ≡ false → is_name a ≡ false
-same-name a b h n = ap is_name ((Rattle.std.specs.Cmp.Lexicographic.bytes_decides a b).0 h) ∙ n
-
-pub no_name-absent : (names : List Id) (id : Id) → list_all is_name names ≡ true → is_name id ≡ false → is_among names id ≡ false
-no_name-absent [] id h n = refl
-no_name-absent (a ∷ names) id h n =
-    let (one, all) = and_parts (is_name a) (list_all is_name names) h in
-    elim (cases_Bool (is_same a id)) [
-      | inl t ↦ absurd (both_ways (is_name a) (same-name a id t n) one)
-      | inr f ↦ ap (λ b. b || is_among names id) f ∙ no_name-absent names id all n
-    ]
-
-pub is_candidate : (candidates : List Id) (id : Id) → list_any (is_same id) candidates ≡ is_some (candidate_named candidates id)
-is_candidate candidates id = among-set candidates id ∙ sym (some_position (λ candidate. is_same candidate id) candidates)
-
-pub no_candidate : (candidates : List Id) (id : Id) → are_names candidates ≡ true → is_name id ≡ false → false ≡ is_some (candidate_named candidates id)
-no_candidate candidates id h n =
-    sym (some_position (λ candidate. is_same candidate id) candidates
-    ∙ no_name-absent candidates id (and_parts (list_all is_name candidates) (all_differ candidates) h).0 n)
 
 -- ---- the preferences so far
 

@@ -6,7 +6,7 @@ use Rattle.irv_base.specs.declared.limits.TheConstants.{FEWEST_CANDIDATES, MOST_
 
 -- ---- ballots
 
--- the ballot with number i has the id ids i and the ranking rankings i, and stands in record places i of the file, counted from 1
+-- the ballot with number i has the id ids i and the ranking rankings i, and is in record places i of the file, counted from 1
 pub record BallotFile : Type 0 where
   pub contest : Id
   pub candidates : List Id
@@ -42,7 +42,7 @@ pub record AreCandidates (candidates : List Id) : Type 0 where
   pub most : length candidates ≤ MOST_CANDIDATES
   pub differ : IsTrue (all_differ candidates)
 
--- of n candidates
+-- for n candidates
 pub record AreBallots
     (n : ℕ) (ids : List Id) (places : List ℕ) (rankings : List (List ℕ)) : Type 0 where
   pub most : length rankings ≤ MOST_RECORDS

@@ -23,8 +23,8 @@ pub record IsBegun (begun : BegunFile) : Type 0 where
   pub kept : (ballots : List Ballot)
       × IsKeptUpTo begun.contests (VotesOf begun.audited) ballots begun.at begun.kept
 
--- Of these records the contests are read, and behind them these ballots. Whatever records follow, the file says of the chosen contest what these
--- ballots and those that follow say.
+-- The contests are read from these records, followed by these ballots. Whatever records follow, the file says of the chosen contest what
+-- these ballots and those that follow say.
 pub record IsReadSoFar
     (asked : Option Id) (rows : List Fields) (begun : BegunFile) (chosen : Contest)
     (ballots : List Ballot) : Type 0 where

@@ -1,4 +1,4 @@
--- What a ballot file says, or why and where it is refused.
+-- What a ballot file says, or why and at which place it is refused.
 use Rattle.std.specs.Prelude.{ℕ, zero, suc, ◌+◌, Bool, true, false, not, ◌&&◌, ◌||◌, nat_le, nat_lt, if◌then◌else◌, List, [], ◌∷◌, ◌++◌, map, filter, find, take, drop, length, Option, Some, None, option_map, option_and_then, Result, Ok, Err, codes}
 use Rattle.std.specs.List.{list_all, list_any}
 use Rattle.csv_rows.specs.Fields.{numbered_records}
@@ -39,7 +39,7 @@ pub record Contest : Type 0 where
 abbrev pub has_id : Id → Contest → Bool
 has_id id contest = is_same contest.id id
 
--- so many of the ids, if there are as many
+-- this many of the ids, if there are as many
 abbrev pub listed : Option ℕ → List Id → Option (List Id)
 listed None ids = None
 listed (Some n) ids = if nat_le n (length ids) then Some (take n ids) else None
@@ -172,7 +172,7 @@ abbrev pub then_on :
 then_on (Ok value) more = more value
 then_on (Err refusal) more = Err refusal
 
--- behind n contests the records are ballots
+-- after n contests the records are ballots
 abbrev pub ballots_behind : Option ℕ → Option Id → List Fields → Result BallotFile (Refusal BRule)
 ballots_behind None asked rows = refused B1 1
 ballots_behind (Some n) asked rows =
@@ -185,7 +185,7 @@ abbrev pub ballots_from : Option Id → List Fields → Result BallotFile (Refus
 ballots_from asked [] = refused B1 1
 ballots_from asked (first ∷ rows) = ballots_behind (contest_count first) asked rows
 
--- what a file says of the contest that is asked for, or, where none is, of its only one
+-- what a file says of the contest that is asked for, or of its only one if none is
 abbrev pub ballots_of : List ℕ → Option Id → Result BallotFile (Refusal BRule)
 ballots_of bytes asked = ballots_from asked (numbered_records bytes)
 
@@ -200,7 +200,7 @@ abbrev pub all_audited : List Contest → Result (List Contest) (Refusal BRule)
 all_audited contests =
     unless_unsized contests (find (λ contest. not (has_audited_size contest.candidates)) contests)
 
--- behind n contests the records are ballots
+-- after n contests the records are ballots
 abbrev pub contests_behind : Option ℕ → List Fields → Result (List BallotFile) (Refusal BRule)
 contests_behind None rows = refused B1 1
 contests_behind (Some n) rows =

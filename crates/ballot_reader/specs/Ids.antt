@@ -16,15 +16,15 @@ has_bit words bit = (slice_index words (bit / 64) / 2 ^ (bit % 64)) % 2 == 1
 abbrev pub no_bits : List ℕ
 no_bits = 0 ∷ 0 ∷ 0 ∷ 0 ∷ []
 
--- Of what the last bytes of an id count, four bits of the last and four of the one before it are its bit on a page, and the rest is added
--- to the digest of the other bytes to be the number of the page. So ids that were counted up in decimal digits, as those of ballots are,
--- stand up to a hundred on a page, and the next page is found beside the last. Ids with other numbers of pages or bits differ;
--- two that differ may share both, and then they differ in length or front, by which a page tells those that it is for.
+-- The last bytes of an id are read as a number. Four bits of the last byte and four of the one before it are the id's bit on a page; the
+-- rest is added to the digest of the other bytes and gives the number of the page. So ids that were counted up in decimal digits, as
+-- those of ballots are, are up to a hundred on a page, and the next page is found next to the last. Ids with other numbers of pages or
+-- bits differ. Two that differ may share both, and then they differ in length or in their first bytes, by which a page knows its ids.
 
 abbrev pub digest : Id → ℕ
 digest id = finish (write initial id)
 
--- the number that bytes are, the first of them most significant, behind one that is there; it begins anew at 2 ^ 64
+-- the number that bytes are, the first of them most significant, after one that is there; it wraps at 2 ^ 64
 abbrev pub number_behind : ℕ → List ℕ → ℕ
 number_behind n [] = n
 number_behind n (b ∷ bytes) = number_behind ((n * 2 ^ 8 % 2 ^ 64 + b) % 2 ^ 64) bytes
@@ -33,7 +33,7 @@ number_behind n (b ∷ bytes) = number_behind ((n * 2 ^ 8 % 2 ^ 64 + b) % 2 ^ 64
 abbrev pub counted : Id → ℕ
 counted id = number_behind 0 (drop (length id - COUNTED_BYTES) id)
 
--- what stands in front of the bytes that are counted
+-- what comes before the bytes that are counted
 abbrev pub front : Id → Id
 front id = take (length id - COUNTED_BYTES) id
 
@@ -41,7 +41,7 @@ abbrev pub page_number : Id → ℕ
 page_number id =
     (digest (front id) + (counted id / 4096 * 16 + counted id / 16 % 16)) % 2 ^ 64
 
--- the bit where the last bytes count so much
+-- the bit if the last bytes count this much
 abbrev pub bit_of : ℕ → ℕ
 bit_of count = count % 16 + count / 256 % 16 * 16
 
@@ -81,7 +81,7 @@ is_paged pages id = is_on (page_at pages (page_number id)) id
 abbrev pub is_elsewhere : Pages → Id → Bool
 is_elsewhere pages id = is_for_others (page_at pages (page_number id)) id
 
--- the page with a number lies open now, as it was, or where there was none a new one for ids like this one; the others are as they were
+-- the page with a number is open now, as it was, or a new one for ids like this one if there was none; the others are as they were
 pub record HasTurned (old new : Pages) (number : ℕ) (id : Id) : Type 0 where
   pub lies : new.open ≡ number
   pub others : (n : ℕ) → n ≢ number → page_at new n ≡ page_at old n

@@ -32,7 +32,7 @@ are_pages_apart own its =
     then are_alike own.like its.like && share_none own.bits its.bits
     else true
 
--- the bits of both, where both are for ids alike
+-- the bits of both, if both are for ids alike
 abbrev pub page_of_both : Page → Page → Page
 page_of_both own its =
     if is_some own.like && is_some its.like
@@ -62,7 +62,7 @@ abbrev pub AreOfBoth : Pages → Pages → Pages → Type 0
 AreOfBoth own its all =
     (number : ℕ) → page_at all number ≡ of_both (page_at own number) (page_at its number)
 
--- all ids stand on pages, and these are apart
+-- all ids are on pages, and these are apart
 pub record ArePagesApart (own its : Noted) : Type 0 where
   pub apart : AreAllApart own.pages its.pages
   pub own_here : own.elsewhere ≡ []

@@ -25,20 +25,20 @@ pub record KeptOrigins : Type 0 where
   pub ids : List Id
   pub places : List ℕ
 
--- where its ballots come from, if that is kept; of how many candidates they are counted as they come, if they are; and their rankings
+-- where its ballots come from, if that is kept; for how many candidates they are counted as they come, if they are; and their rankings
 pub record KeptPart : Type 0 where
   pub origins : Option KeptOrigins
   pub counted : Option ℕ
   pub rankings : List (List ℕ)
 
--- they are counted where it isn't kept whence they come, and there are few candidates
+-- they are counted if their origin isn't kept and there are few candidates
 abbrev pub counted_for : Bool → Contest → Option ℕ
 counted_for true contest = None
 counted_for false contest =
     if nat_lt ALWAYS_SUMMED (length contest.candidates) then None
     else Some (length contest.candidates)
 
--- where they are counted, it is of as many candidates as the contest has
+-- if they are counted, it is for as many candidates as the contest has
 abbrev pub CountsOwn : Contest → KeptPart → Type 0
 CountsOwn contest part = IfSome part.counted (λ n. n ≡ length contest.candidates)
 
@@ -80,7 +80,7 @@ with_ballot part id at ranking = record {
   rankings = part.rankings ++ ranking ∷ [];
 }
 
--- the contest with its ballots, where it is kept whence they come
+-- the contest with its ballots, if their origin is kept
 abbrev pub file_with : Contest → KeptPart → Option BallotFile
 file_with contest part =
     option_map (λ origins. record {
@@ -91,7 +91,7 @@ file_with contest part =
       rankings = part.rankings;
     }) part.origins
 
--- no id stands twice in the contest, and its rankings have its candidates alone, each once
+-- no id is in the contest twice, and its rankings have only its candidates, each once
 pub record AreApart (ballots : List Ballot) (contest : Contest) : Type 0 where
   pub differ : IsTrue (all_differ (ballot_ids contest.id ballots))
   pub below : All (λ ranking. All (λ c. c < length contest.candidates) ranking)
@@ -100,7 +100,7 @@ pub record AreApart (ballots : List Ballot) (contest : Contest) : Type 0 where
 
 -- ---- what is kept of all
 
--- the contest at a place is one of those that are wanted
+-- the contest at a place is one of those that are asked for
 abbrev pub is_wanted : Wanted → ℕ → Bool
 is_wanted (One only) place = place == only
 is_wanted (VotesOf only) place = place == only
@@ -112,7 +112,7 @@ keeps_origins (One only) = true
 keeps_origins (VotesOf only) = false
 keeps_origins EachContest = true
 
--- of each contest the ids of its ballots were met
+-- for each contest the ids of its ballots were met
 abbrev pub AllNoted : List Ballot → List Contest → List Noted → Type 0
 AllNoted ballots [] [] = Unit {0}
 AllNoted ballots [] (noted ∷ rest) = ⊥
@@ -120,14 +120,14 @@ AllNoted ballots (contest ∷ contests) [] = ⊥
 AllNoted ballots (contest ∷ contests) (noted ∷ rest) =
     AreNoted (ballot_ids contest.id ballots) noted × AllNoted ballots contests rest
 
--- a part for each contest that is wanted, the first of them being at this place
+-- a part for each contest that is asked for, the first of them being at this place
 abbrev pub parts_from : ℕ → Wanted → List Ballot → List Contest → List (Option KeptPart)
 parts_from place wanted ballots [] = []
 parts_from place wanted ballots (contest ∷ contests) =
     (if is_wanted wanted place then Some (part_of (keeps_origins wanted) ballots contest) else None)
     ∷ parts_from (place + 1) wanted ballots contests
 
--- what is kept: which ids of each contest's ballots were met, a part for each contest that is wanted, and how many ballots there are
+-- what is kept: which ids of each contest's ballots were met, a part for each contest that is asked for, and how many ballots there are
 pub record KeptBallots : Type 0 where
   pub met : List Noted
   pub parts : List (Option KeptPart)
@@ -146,7 +146,7 @@ pub record IsKept
 
 -- ---- the size of contests
 
--- each contest that is wanted has few enough candidates to be audited, and enough
+-- each contest that is asked for has few enough candidates to be audited, and enough
 abbrev pub WantsAudited : List Contest → Wanted → Type 0
 WantsAudited contests wanted =
     (place : ℕ) (contest : Contest) → slice_get contests place ≡ Some contest →
@@ -164,7 +164,7 @@ EachCountsOwn contests parts =
     (place : ℕ) (contest : Contest) (part : KeptPart) → slice_get contests place ≡ Some contest →
     slice_get parts place ≡ Some (Some part) → CountsOwn contest part
 
--- it is what is kept of these ballots, behind which comes the record number at; the contests that are wanted can be audited
+-- it is what is kept of these ballots, after which comes the record number at; the contests that are asked for can be audited
 pub record IsKeptUpTo
     (contests : List Contest) (wanted : Wanted) (ballots : List Ballot) (at : ℕ)
     (kept : KeptBallots) : Type 0 where

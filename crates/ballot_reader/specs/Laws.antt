@@ -27,7 +27,7 @@ spelling file =
     ∷ (codes "Contest" ∷ file.contest ∷ decimal (length file.candidates) ∷ file.candidates)
     ∷ ballot_records file.contest file.candidates file.ids file.rankings
 
--- the first ballot stands in the third record
+-- the first ballot is in the third record
 pub record HasSpelling (file : BallotFile) : Type 0 where
   pub sound : IsSound file
   pub contest_named : IsTrue (is_name file.contest)
@@ -63,8 +63,8 @@ pub record IsFirstRefusal
   pub first : (other : Contest) (later : Refusal BRule) → Contains contests other →
       said (Some other.id) ≡ Err later → refusal.at ≤ later.at
 
--- what is said of all contests is what is said of each by its id: the files in their order, or the first refusal. Where the contests
--- aren't listed, it is that refusal
+-- what is said of all contests is what is said of each by its id: the files in their order, or the first refusal. If the contests aren't
+-- listed, it is that refusal
 abbrev pub IsOfEach :
     (Option Id → Result BallotFile (Refusal BRule)) → Result (List Contest) (Refusal BRule) →
     Result (List BallotFile) (Refusal BRule) → Type 0

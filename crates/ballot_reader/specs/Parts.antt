@@ -1,4 +1,4 @@
--- Ballots that are read side by side: parts of a file, each read as if no ballots stood before it.
+-- Ballots that are read at the same time: parts of a file, each read as if no ballots came before it.
 use Rattle.std.specs.Prelude.{◌≡◌, ◌≤◌, ◌+◌, ◌++◌, [], ℕ, List, length, IsTrue, Option, None, Some, option_map, Result, Ok, IfOk, IfErr}
 use Rattle.std.specs.List.{slice_get}
 use Rattle.csv_rows.specs.Rows.{Fields}
@@ -31,7 +31,7 @@ IsReadAlone contests wanted rows kept =
     × (ballots_after contests [] (2 + length contests) rows ≡ Ok ballots)
     × IsKept contests wanted ballots kept
 
--- behind these ballots the records from number at on are ballots, and this is kept of all up to record next
+-- after these ballots the records from number at on are ballots, and this is kept of all up to record next
 abbrev pub IsReadBehind :
     List Contest → Wanted → List Ballot → ℕ → List Fields → ℕ → KeptBallots → Type 0
 IsReadBehind contests wanted earlier at rows next kept =
@@ -39,28 +39,29 @@ IsReadBehind contests wanted earlier at rows next kept =
     × (ballots_after contests earlier at rows ≡ Ok ballots)
     × IsKeptUpTo contests wanted ballots next kept
 
--- whatever ballots were kept up to record number first, the ballots in these records come behind them
+-- whatever ballots were kept up to record number first, the ballots in these records come after them
 abbrev pub ComeBehind :
     List Contest → Wanted → ℕ → List Fields → KeptBallots → ℕ → KeptBallots → Type 0
 ComeBehind contests wanted first rows before next after =
     (earlier : List Ballot) → IsKeptUpTo contests wanted earlier first before →
     IsReadBehind contests wanted earlier first rows next after
 
--- behind them a record is refused
+-- after them a record is refused
 abbrev pub IsRefusedBehind :
     List Contest → Wanted → ℕ → List Fields → KeptBallots → Fault BRule → Type 0
 IsRefusedBehind contests wanted first rows before fault =
     (earlier : List Ballot) → IsKeptUpTo contests wanted earlier first before →
     Refuses (ballots_after contests earlier first rows) fault
 
--- what comes of keeping the ballots in these records behind those that were kept: the number of the record that comes next, or why one is refused
+-- the result of keeping the ballots in these records after those that were kept: the number of the record that comes next, or why one is
+-- refused
 abbrev pub IsAnswer :
     List Contest → ℕ → ℕ → List Fields → KeptBallots → KeptBallots → Result ℕ (Fault BRule) → Type 0
 IsAnswer contests audited first rows before after answer =
     IfOk answer (λ next. ComeBehind contests (VotesOf audited) first rows before next after)
     × IfErr answer (λ fault. IsRefusedBehind contests (VotesOf audited) first rows before fault)
 
--- this is kept of ballots that were read alone, put behind what was kept of others: where these went up to a record, those come behind them
+-- this is kept of ballots that were read alone, put after what was kept of others: if these went up to a record, those come after them
 abbrev pub IsKeptBehind : KeptBallots → KeptBallots → KeptBallots → Type 0
 IsKeptBehind before part after =
     (contests : List Contest) (audited : ℕ) (earlier : List Ballot) (at : ℕ) (rows : List Fields) →
@@ -70,24 +71,24 @@ IsKeptBehind before part after =
 
 -- ---- what can be put together
 
--- of each contest it is seen that no id was met in both
+-- for each contest it is known that no id was met in both
 abbrev pub AreMetApart : List Noted → List Noted → Type 0
 AreMetApart own its =
     (place : ℕ) (met more : Noted) → slice_get own place ≡ Some met →
     slice_get its place ≡ Some more → ArePagesApart met more
 
--- of how many candidates ballots are counted, if there is a part and they are
+-- for how many candidates ballots are counted, if there is a part and they are
 abbrev pub form_of : Option KeptPart → Option ℕ
 form_of None = None
 form_of (Some part) = part.counted
 
--- of each contest ballots are counted in both, of as many candidates, or in neither
+-- for each contest ballots are counted in both, for as many candidates, or in neither
 abbrev pub AreAlike : List (Option KeptPart) → List (Option KeptPart) → Type 0
 AreAlike own its =
     (place : ℕ) (before part : Option KeptPart) → slice_get own place ≡ Some before →
     slice_get its place ≡ Some part → form_of part ≡ form_of before
 
--- what is kept of some ballots can be put behind what is kept of others
+-- what is kept of some ballots can be put after what is kept of others
 pub record CanJoin (kept part : KeptBallots) : Type 0 where
   pub met_each : length part.met ≡ length kept.met
   pub part_each : length part.parts ≡ length kept.parts
@@ -109,16 +110,16 @@ abbrev pub IsJoined : Noted → Noted → Noted → Type 0
 IsJoined before part both =
     (own its : List Id) → AreNoted own before → AreNoted its part → AreNoted (own ++ its) both
 
--- of each contest the ids of both were met
+-- for each contest the ids of both were met
 abbrev pub AreJoined : List Noted → List Noted → List Noted → Type 0
 AreJoined own its all = AreTogether Noted IsJoined own its all
 
--- with these rankings behind its own
+-- with these rankings after its own
 abbrev pub with_rankings : KeptPart → List (List ℕ) → KeptPart
 with_rankings part rankings =
     record { origins = part.origins; counted = part.counted; rankings = part.rankings ++ rankings }
 
--- what is kept of more ballots of a contest, where it isn't kept whence they come, behind what is kept of others
+-- what is kept of more ballots of a contest, if their origin isn't kept, after what is kept of others
 abbrev pub part_behind : Option KeptPart → Option KeptPart → Option KeptPart
 part_behind None before = before
 part_behind (Some part) before = option_map (λ own. with_rankings own part.rankings) before
@@ -126,7 +127,7 @@ part_behind (Some part) before = option_map (λ own. with_rankings own part.rank
 abbrev pub IsPutBehind : Option KeptPart → Option KeptPart → Option KeptPart → Type 0
 IsPutBehind before part both = both ≡ part_behind part before
 
--- each contest's part behind another one of the same contest
+-- each contest's part after another one of the same contest
 abbrev pub ArePutBehind :
     List (Option KeptPart) → List (Option KeptPart) → List (Option KeptPart) → Type 0
 ArePutBehind own its all = AreTogether (Option KeptPart) IsPutBehind own its all

@@ -32,7 +32,7 @@ pub record VotesSoFar : Type 0 where
   pub at_hand : AtHand
   pub stage : Stage
 
--- of these bytes some records were read, and what is at hand stands behind these
+-- some records of these bytes were read, and what is at hand comes after these
 abbrev pub HasRead : VotesSoFar → List ℕ → Type 0
 HasRead reader bytes =
     (rows : List Fields) × IsBehind bytes rows reader.at_hand
@@ -44,7 +44,7 @@ IsAt reader bytes (Ballots begun) = HasRead reader bytes
 IsAt reader bytes (Refused fault) =
     (more : List ℕ) → Refuses (ballots_of (bytes ++ more) reader.asked) fault
 
--- these bytes were taken; where they are refused, what is at hand isn't told
+-- these bytes were taken; if they are refused, what is at hand is unknown
 abbrev pub HasTaken : VotesSoFar → List ℕ → Type 0
 HasTaken reader bytes = IsAt reader bytes reader.stage
 
@@ -54,8 +54,8 @@ HasTaken reader bytes = IsAt reader bytes reader.stage
 abbrev pub LacksContests : Option Id → List Fields → Type 0
 LacksContests asked rows = (refusal : Refusal BRule) × (ballots_from asked rows ≡ Err refusal)
 
--- of whole lines that can be read only these are held: while no contests are read, those that would be refused as a file, or many; behind contests a few, which
--- wait for more. Where the file is refused, nothing is said
+-- of whole lines that can be read only these are held: while no contests are read, those that would be refused as a file, or many; after
+-- contests a few, which wait for more. If the file is refused, nothing is said
 abbrev pub HoldsLittle : Option Id → ℕ → List ℕ → Stage → Type 0
 HoldsLittle asked holds lines Contests =
     IsTrue (can_be_read lines) → length lines ≤ MOST_OF_CONTESTS →

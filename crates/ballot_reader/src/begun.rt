@@ -108,7 +108,7 @@ impl Begun {
         })
     }
 
-    /// Reads the ballots in the lines that come next, by several workers where it is worth that.
+    /// Reads the ballots in the lines that come next, by several workers if that pays.
     pub fn add_lines<R: Threads + Sync>(
         self,
         rt: &R,

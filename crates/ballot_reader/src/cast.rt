@@ -1,4 +1,8 @@
 // The rankings of a contest's ballots.
+//
+// Up to `ALWAYS_SUMMED` candidates all that is ever asked of the rankings is a table and their number, so each ballot is counted where it
+// is read. With more candidates the table may never be made, so rankings are kept. They are also kept with ids and places, since cards
+// are linked to them.
 ghost use Rattle.std.specs.Prelude.{◌≡◌, ◌<◌, ◌≤◌, ◌++◌, ◌∷◌, [], ℕ, List, None, Some, All, IfOk, IfSome, OnOk, IsTrue, is_some, length};
 ghost use Rattle.irv_base.specs.Names.{all_differ};
 ghost use Rattle.irv_base.specs.declared.limits.TheConstants.{FEWEST_CANDIDATES, MOST_RECORDS, ROOM};
@@ -28,7 +32,7 @@ pub enum Cast {
 }
 
 impl Cast {
-    /// No rankings. They are counted if it is told of how many candidates, and else kept, with room for so many ballots.
+    /// No rankings. They are counted if the number of candidates is given; otherwise they are kept, with room for this many ballots.
     pub fn nothing(alloc: Global, counted: Option<u32>, room: usize) -> Result<Cast, Memory>
         requires { IfSome counted (λ n. n ≤ ALWAYS_SUMMED) }
         ensures form { IfOk result (λ cast. counted_of cast ≡ counted) }
@@ -43,7 +47,7 @@ impl Cast {
         }
     }
 
-    /// Of how many candidates they are counted, if they are.
+    /// For how many candidates they are counted, if they are.
     pub fn counted_of(&self) -> Option<u32>
         ensures { result ≡ counted_of self.now }
     {
@@ -111,7 +115,7 @@ impl Cast {
         }
     }
 
-    /// The ballots of a contest with `n` candidates, counted by at most so many workers where they aren't yet.
+    /// The ballots of a contest with `n` candidates, counted by at most this many workers if they aren't yet.
     pub fn counted<R: AllocGlobal + Threads + Sync>(
         &self,
         rt: &R,

@@ -1,13 +1,13 @@
 // The record of a contest.
-ghost use Rattle.std.specs.Prelude.{◌≡◌, ◌≤◌, IfOk, length, option_map, take};
+ghost use Rattle.std.specs.Prelude.{◌≡◌, ◌≤◌, IfOk, length, take};
 ghost use Rattle.std.specs.List.{list_any};
 ghost use Rattle.ballot_reader.specs.Grammar.{names_of, has_id, contest_of};
 
 use crate::count::number_up_to;
 use crate::fault::BRule;
 use crate::limits::MOST_LISTED;
+use crate::listed::Listed;
 use csv_rows::Fields;
-use indexmap::IndexSet;
 use irv_base::{Memory, Name};
 use std::alloc::Global;
 use std::marker::Model;
@@ -20,7 +20,7 @@ pub struct Contest {
     /// The id that its ballots name.
     pub id: Name,
     /// The ids of its candidates, in the order of its record.
-    pub candidates: IndexSet<Name>,
+    pub candidates: Listed,
 }
 
 impl Model for Contest {
@@ -29,9 +29,9 @@ impl Model for Contest {
 
     ghost Value = { ContestRecord };
 
-    ghost view = { λ c. record { at = c.at; id = c.id; candidates = c.candidates.keys } };
+    ghost view = { λ c. record { at = c.at; id = c.id; candidates = c.candidates } };
 
-    ghost invariant = { λ c. IsTrue (are_names c.candidates.keys) };
+    ghost invariant = { λ c. IsTrue (are_names c.candidates) };
 }
 
 fn is_contest_id(contests: &[Contest], id: &[u8]) -> bool
@@ -41,15 +41,11 @@ fn is_contest_id(contests: &[Contest], id: &[u8]) -> bool
 }
 
 // The first n fields, if each of them is a name and all are different.
-fn names_of(
-    alloc: Global,
-    n: usize,
-    fields: &mut Fields<'_>,
-) -> Result<Option<IndexSet<Name>>, Memory>
+fn names_of(alloc: Global, n: usize, fields: &mut Fields<'_>) -> Result<Option<Listed>, Memory>
     requires { n ≤ length fields.now }
-    ensures { IfOk result (λ names. option_map (λ s. s.keys) names ≡ names_of (take n fields.old)) }
+    ensures { IfOk result (λ names. names ≡ names_of (take n fields.old)) }
 {
-    let mut names = IndexSet::new(alloc);
+    let mut names = Listed::nothing(alloc);
     for _ in 0..n {
         let Some(field) = fields.next() else {
             unreachable!();
@@ -57,7 +53,7 @@ fn names_of(
         let Some(name) = Name::read(field) else {
             return Ok(None);
         };
-        if !names.insert(name)? {
+        if !names.put(alloc, name)? {
             return Ok(None);
         }
     }

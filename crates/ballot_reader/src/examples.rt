@@ -1,4 +1,4 @@
-//! Worked examples, computed by the checker: what is on both sides of each limit of a ballot file, and how ids are told.
+//! Worked examples, computed by the checker: what is on both sides of each limit of a ballot file, and how ids are told apart.
 ghost use Rattle.std.specs.Prelude.{◌≡◌, ◌+◌, ◌-◌, ◌%◌, ◌^◌, [], ◌∷◌, Some, None, true, false, codes, replicate};
 ghost use Rattle.irv_base.specs.declared.limits.TheConstants.{FEWEST_CANDIDATES, MOST_CANDIDATES};
 ghost use Rattle.ballot_reader.specs.declared.limits.TheConstants.{MOST_LISTED};
@@ -37,7 +37,7 @@ pub fn rankings()
     ensures unknown { ranking_of (codes "A" ∷ codes "B" ∷ []) (codes "C" ∷ []) ≡ None }
 {}
 
-/// Of an id the last two digits are its bit, 4 * 16 + 2 here, and those before them its page: a hundred ids in order stand on one.
+/// The last two digits of an id are its bit, 4 * 16 + 2 here, and those before them its page: a hundred ids in order are on one page.
 pub fn pages()
     ensures bit { bit_of (counted (codes "A-0042")) ≡ 66 }
     ensures same { page_number (codes "A-0099") ≡ page_number (codes "A-0042") }

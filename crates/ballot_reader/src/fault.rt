@@ -8,7 +8,7 @@ use file_fault::{Fault, Rule};
 pub enum BRule {
     /// The number of contests.
     B1,
-    /// The form of a contest's record, and that no contest stands twice.
+    /// The form of a contest's record, and that all contests are different.
     B2,
     /// The number of candidates.
     B3,
@@ -22,7 +22,7 @@ pub enum BRule {
     B7,
     /// The preferences of a ballot.
     B8,
-    /// That no ballot id stands twice in a contest.
+    /// That all ballot ids of a contest are different.
     B9,
     /// The number of ballots.
     B10,

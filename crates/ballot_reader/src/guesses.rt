@@ -1,4 +1,5 @@
-// Where an id may stand among a few names.
+// A guess at the place of an id among a few names. The guess is made of the id's look, its first four bytes and its last, times a factor.
+// Several factors are tried, until no two names share a guess. A wrong guess costs time only, so the table has no invariant.
 ghost use Rattle.std.specs.Prelude.{◌<◌, ◌≤◌, length};
 ghost use Rattle.irv_base.specs.declared.limits.TheConstants.{ROOM};
 ghost use Rattle.ballot_reader.specs.declared.guesses.TheConstants.{GUESSES};
@@ -6,7 +7,7 @@ ghost use Rattle.ballot_reader.specs.declared.guesses.TheConstants.{GUESSES};
 use crate::same::number_of_4;
 use irv_base::Name;
 
-// How many guesses there are. With so many, a factor by which no two names share one is soon found.
+// How many guesses there are. With this many, a factor by which no two names share one is soon found.
 const GUESSES: usize = 256;
 
 // How many factors are tried. Each is the one before, times the first, which is odd.
@@ -17,14 +18,14 @@ const FIRST_FACTOR: u64 = 0x9E37_79B9_7F4A_7C15;
 // No name's place
 const NOWHERE: u8 = u8::MAX;
 
-/// For each look that an id may have, the place of a name that has it. It is a guess: whoever asks compares.
+/// For each look that an id may have, the place of a name that has it. It is a guess: the caller compares.
 #[derive(Drop)]
 pub struct Guesses {
     factor: u64,
     places: [u8; GUESSES],
 }
 
-// What an id looks like: its first bytes and its last, and where these are few, how many there are.
+// What an id looks like: its first bytes and its last, and how many there are if these are few.
 #[inline(always)]
 fn look(id: &[u8]) -> u64 {
     let n = id.len();
@@ -55,7 +56,7 @@ impl Guesses {
         }
     }
 
-    // Puts the places of these names in, and tells whether no two share a guess.
+    // Puts the places of these names in, and answers whether no two share a guess.
     fn put(&mut self, names: &[Name]) -> bool
         requires { length names.now ≤ ROOM }
     {
@@ -85,7 +86,7 @@ impl Guesses {
         guesses
     }
 
-    /// Where the id may stand.
+    /// Where the id may be.
     #[inline(always)]
     pub fn place(&self, id: &[u8]) -> usize {
         usize::from(self.places[guess_of(self.factor, id)])

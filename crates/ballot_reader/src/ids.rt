@@ -1,11 +1,11 @@
-// Ids, kept one behind the other.
+// Ids, kept one after the other.
 ghost use Rattle.std.specs.Prelude.{◌≡◌, ◌<◌, ◌++◌, ◌∷◌, [], Some, IfOk, OnOk, OnErr, length, slice_get};
 
 use irv_base::{Lists, Memory};
 use std::alloc::Global;
 use std::marker::Model;
 
-// How many bytes an id has, or about that. Room is made for so many first, and for more when they come.
+// How many bytes an id has, or about that. Room is made for this many first, and for more when they come.
 const ID_BYTES: usize = 16;
 
 /// A list of ids. It takes as many bytes as they have, and four for each.
@@ -26,7 +26,7 @@ impl Model for Ids {
 }
 
 impl Ids {
-    /// No ids, with room for so many.
+    /// No ids, with room for this many.
     pub(crate) fn nothing(alloc: Global, room: usize) -> Result<Ids, Memory>
         ensures { IfOk result (λ ids. ids ≡ []) }
     {
@@ -50,7 +50,7 @@ impl Ids {
         self.ids.at(i)
     }
 
-    // Puts the id last. More than `u32::MAX` bytes before it are want of memory.
+    // Puts the id last. If more than `u32::MAX` bytes come before it, the answer is `Memory`.
     pub(crate) fn push(&mut self, id: &[u8]) -> Result<(), Memory>
         ensures pushed { OnOk result (self.new ≡ self.old ++ id.now ∷ []) }
         ensures same { OnErr result (self.new ≡ self.old) }

@@ -67,14 +67,14 @@ fn head_of<'r>(contests: &[Contest], fields: &mut Fields<'r>) -> Result<Head<'r>
     Ok(Head { contest, id })
 }
 
-/// What is kept of ballots: which ids of each contest's were met, how many there are, and a part for each contest that is wanted.
+/// What is kept of ballots: which ids of each contest's were met, how many there are, and a part for each contest that is asked for.
 ///
 /// To a contract it is these three.
 #[derive(Drop)]
 pub struct Kept {
     /// For each contest which ids of its ballots were met.
     pub met: Vec<Noted>,
-    /// For each contest what is kept of its ballots, where they are wanted.
+    /// For each contest what is kept of its ballots, if they are asked for.
     pub parts: Vec<Option<Part>>,
     /// How many ballots there are, of all contests.
     pub count: u32,
@@ -108,7 +108,7 @@ fn nothing_noted(alloc: Global, n: usize) -> Result<Vec<Noted>, Memory>
     Ok(sets)
 }
 
-// An empty part of the contest at a place, if it is wanted, with room for its share of so many ballots.
+// An empty part of the contest at a place, if it is asked for, with room for its share of this many ballots.
 fn part_for(
     alloc: Global,
     contests: &[Contest],
@@ -130,7 +130,7 @@ fn part_for(
     Ok(Some(Part::nothing(alloc, &contests[place], keeps, room)?))
 }
 
-// An empty part of each of these contests that is wanted.
+// An empty part of each of these contests that is asked for.
 fn no_parts(
     alloc: Global,
     contests: &[Contest],
@@ -147,7 +147,7 @@ fn no_parts(
     Ok(parts)
 }
 
-// Notes a ballot's id in the set at a place, unless it stood before; tells whether it is new.
+// Notes a ballot's id in the set at a place, unless it was there; answers whether it is new.
 fn note(sets: &mut Vec<Noted>, place: usize, id: &[u8]) -> Result<bool, Memory>
     requires { place < length sets.now.items }
     ensures new { IfOk result (λ new. (ids : List Id) → (noted : NotedIds)
@@ -163,7 +163,7 @@ fn note(sets: &mut Vec<Noted>, place: usize, id: &[u8]) -> Result<bool, Memory>
 }
 
 impl Kept {
-    /// Nothing, in these contests, with room for so many ballots of those that are wanted.
+    /// Nothing, in these contests, with room for this many ballots of those that are asked for.
     pub fn nothing(
         alloc: Global,
         contests: &[Contest],

@@ -23,7 +23,7 @@ fn are_apart(sets: &[Noted], others: &[Noted]) -> bool
     true
 }
 
-// Of how many candidates ballots are counted, if there is a part and they are.
+// For how many candidates ballots are counted, if there is a part and they are.
 fn form_of(part: &Option<Part>) -> Option<u32>
     ensures { result ≡ form_of part.now }
 {
@@ -71,7 +71,7 @@ fn join_all(sets: &mut Vec<Noted>, others: &[Noted]) -> Result<(), Memory>
     Ok(())
 }
 
-// Puts the rankings of another part of a contest behind those of the part at its place, if there is one.
+// Puts the rankings of another part of a contest after those of the part at its place, if there is one.
 fn append_at(parts: &mut Vec<Option<Part>>, place: usize, other: &Part) -> Result<(), Memory>
     requires within { place < length parts.now.items }
     requires alike { (before : KeptPart) → slice_get parts.now.items place ≡ Some (Some before)
@@ -102,7 +102,7 @@ fn put_at(parts: &mut Vec<Option<Part>>, place: usize, other: &Option<Part>) -> 
     }
 }
 
-// Puts each contest's part behind another one of the same contest.
+// Puts each contest's part after another one of the same contest.
 fn put_all(parts: &mut Vec<Option<Part>>, others: &[Option<Part>]) -> Result<(), Memory>
     requires each { length others.now ≡ length parts.now.items }
     requires alike { AreAlike parts.now.items others.now }
@@ -115,13 +115,13 @@ fn put_all(parts: &mut Vec<Option<Part>>, others: &[Option<Part>]) -> Result<(),
 }
 
 impl Kept {
-    /// Whether all ids that were met stand on pages.
+    /// Whether all ids that were met are on pages.
     pub fn are_paged(&self) -> bool {
         self.met.iter().all(|met| met.elsewhere.is_empty())
     }
 
-    /// Whether what is kept of other ballots can be put behind this: of each contest it is seen that no id was met in both, and
-    /// ballots are counted in both, of as many candidates, or in neither, and there aren't too many ballots.
+    /// Whether what is kept of other ballots can be put after this: for each contest it is known that no id was met in both, ballots are
+    /// counted in both, for as many candidates, or in neither, and there aren't too many ballots.
     pub fn can_join(&self, part: &Kept) -> bool
         ensures { IsTrue result ↔ CanJoin self.now part.now }
     {
@@ -134,7 +134,8 @@ impl Kept {
         are_alike(&self.parts, &part.parts) && are_apart(&self.met, &part.met)
     }
 
-    /// Puts what is kept of ballots that were read alone behind what is kept of others. Of ids and places, where they are kept, nothing is told.
+    /// Puts what is kept of ballots that were read alone after what is kept of others. If ids and places are kept, nothing is said of
+    /// them.
     pub fn join(&mut self, part: &Kept) -> Result<(), Memory>
         requires { CanJoin self.now part.now }
         ensures { OnOk result (IsKeptBehind self.old part.now self.new) }

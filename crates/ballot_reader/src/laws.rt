@@ -10,8 +10,8 @@ pub fn what_is_spelled_is_read()
     ensures { WhatIsSpelledIsRead }
 {}
 
-/// All contests of a file are what each of them is by its id, in their order. The file is refused exactly where one of them is, and
-/// by the refusal that stands first. It is never refused by B5.
+/// All contests of a file are what each of them is by its id, in their order. The file is refused exactly if one of them is, and by the
+/// refusal that comes first. It is never refused by B5.
 pub fn contests_are_each()
     ensures each { ContestsAreEach }
     ensures none_missed { NoneIsMissed }

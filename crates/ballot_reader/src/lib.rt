@@ -15,6 +15,7 @@ mod kept;
 mod kept_parts;
 pub mod laws;
 mod limits;
+mod listed;
 mod name_test;
 mod noted;
 mod page;

@@ -14,12 +14,12 @@ const WORD_BITS: u8 = 64;
 
 const WORDS: usize = 4;
 
-/// So many bytes at the end of an id are counted, and tell its bit. Those in front of them are its page's.
+/// This many bytes at the end of an id are counted, and give its bit. Those before them are its page's.
 pub const COUNTED_BYTES: usize = 5;
 
 /// The bits that are set on a page.
 ///
-/// To a contract it is the words that they stand in.
+/// To a contract it is the words of these bits.
 #[derive(Clone, Copy)]
 pub struct Bits([u64; WORDS]);
 
@@ -87,7 +87,7 @@ impl Bits {
     }
 }
 
-/// What stands in front of the bytes of an id that are counted.
+/// What comes before the bytes of an id that are counted.
 pub fn front(id: &[u8]) -> &[u8]
     ensures { result.now ≡ front id.now }
 {
@@ -97,7 +97,7 @@ pub fn front(id: &[u8]) -> &[u8]
 /// What the ids on a page have alike, and which of them were met.
 #[derive(Clone, Copy)]
 pub struct Page {
-    /// One of these ids; none where the page is for none.
+    /// One of these ids; none if the page is for none.
     pub like: Option<Name>,
     /// The bits of those that were met.
     pub bits: Bits,

@@ -1,4 +1,6 @@
-// Ids on pages: each is told from all others there without a comparison.
+// Ids on pages: each is told apart from all others there without a comparison.
+//
+// A page has 256 bits. With 64 it would take 24 bytes less, and hold up to forty ids that were counted up in place of a hundred.
 ghost use Rattle.std.specs.Prelude.{◌≡◌, ◌≢◌, ◌≤◌, ◌||◌, ℕ, IfOk, OnOk, OnErr, true, false, length};
 ghost use Rattle.irv_base.specs.Names.{Id, is_same};
 ghost use Rattle.ballot_reader.specs.Ids.{AreBytes, HasTurned, bit_of, counted, digest, is_elsewhere, is_paged, number_behind, page_at, page_number};
@@ -11,15 +13,15 @@ use std::alloc::Global;
 use std::collections::BTreeMap;
 use std::hash::{FoldHasher, Hasher};
 
-/// The pages of ids that were met. One page lies open: ids that were counted up stand on the page of the one before. The others
-/// are in order, so that no choice of ids makes them slow to find.
+/// The pages of ids that were met. One page is open: ids that were counted up are on the page of the one before. The others are in order,
+/// so no choice of ids makes them slow to find.
 #[derive(Drop)]
 pub struct Pages {
     /// The number of the page that lies open.
     pub open: u64,
     /// That page.
     pub page: Page,
-    /// The pages that were closed. What stands here of the open one doesn't count.
+    /// The pages that were closed. What is here for the open one doesn't count.
     pub closed: BTreeMap<u64, Page>,
 }
 
@@ -34,7 +36,7 @@ pub enum Mark {
     Elsewhere,
 }
 
-/// A number that stands for bytes, though not for them alone.
+/// A number that is computed from bytes. Other bytes may have the same one.
 pub fn digest(bytes: &[u8]) -> u64
     ensures { result ≡ digest bytes.now }
 {
@@ -106,8 +108,8 @@ impl Pages {
         }
     }
 
-    // Opens the page with a number, or a new one for ids like this one where there is none. Ids that were counted up mostly stand on the
-    // page that lies open.
+    // Opens the page with a number, or a new one for ids like this one if there is none. Ids that were counted up are mostly on the open
+    // page.
     fn turn_to(&mut self, number: u64, id: &[u8]) -> Result<(), Memory>
         ensures turned { OnOk result (HasTurned self.old self.new number id.now) }
         ensures same { OnErr result ((n : ℕ) → page_at self.new n ≡ page_at self.old n) }
@@ -118,7 +120,7 @@ impl Pages {
         self.close_for(number, id)
     }
 
-    // The same where another page lies open. Few of those ids turn a page, so that this isn't made part of what calls it.
+    // The same if another page is open. Few of those ids turn a page, so this isn't inlined.
     #[inline(never)]
     fn close_for(&mut self, number: u64, id: &[u8]) -> Result<(), Memory>
         requires away { number ≢ self.old.open }

@@ -36,7 +36,7 @@ impl Model for Origins {
 }
 
 impl Origins {
-    // None, with room for so many.
+    // None, with room for this many.
     fn nothing(alloc: Global, room: usize) -> Result<Origins, Memory>
         ensures { IfOk result (λ origins. origins ≡ no_origins) }
     {
@@ -58,14 +58,14 @@ impl Origins {
 
 /// What is kept of the ballots of a contest.
 ///
-/// To a contract it is where they come from, of how many candidates they are counted, if they are, and their rankings.
+/// To a contract it is where they come from, for how many candidates they are counted, if they are, and their rankings.
 #[derive(Drop)]
 pub struct Part {
     /// Where the ballots come from, if that is kept.
     pub origins: Option<Origins>,
     /// The rankings, kept or counted.
     pub cast: Cast,
-    // Which candidate an id looks like. It saves time, and tells nothing of the ballots.
+    // Which candidate an id looks like. It saves time, and says nothing of the ballots.
     guesses: Guesses,
 }
 
@@ -82,7 +82,7 @@ impl Model for Part {
     } };
 }
 
-// No origins, with room for so many, if they are kept.
+// No origins, with room for this many, if they are kept.
 fn no_origins(alloc: Global, keeps: bool, room: usize) -> Result<Option<Origins>, Memory>
     ensures { IfOk result (λ origins. origins ≡ (if keeps then Some no_origins else None)) }
 {
@@ -102,7 +102,7 @@ fn keep_origin(origins: &mut Option<Origins>, id: &[u8], at: u32) -> Result<(), 
     Ok(())
 }
 
-// Of how many candidates the ballots of a contest are counted as they come, if they are.
+// For how many candidates the ballots of a contest are counted as they come, if they are.
 fn counted_for(contest: &Contest, keeps: bool) -> Option<u32>
     ensures same { result ≡ counted_for keeps contest.now }
     ensures few { IfSome result (λ n. n ≤ ALWAYS_SUMMED) }
@@ -115,8 +115,8 @@ fn counted_for(contest: &Contest, keeps: bool) -> Option<u32>
 }
 
 impl Part {
-    /// Nothing, with room for so many ballots of the contest. It is kept or not where they come from. Where it isn't, and there are few
-    /// candidates, ballots are counted as they come.
+    /// Nothing, with room for this many ballots of the contest. Their origin is kept or not. If it isn't, and there are few candidates,
+    /// ballots are counted as they come.
     pub fn nothing(
         alloc: Global,
         contest: &Contest,
@@ -133,7 +133,7 @@ impl Part {
         })
     }
 
-    // Keeps the ballot of this id with these preferences in the record number `at`, if they are candidates of the contest. It tells
+    // Keeps the ballot of this id with these preferences in the record number `at`, if they are candidates of the contest. It answers
     // whether they are.
     fn add(
         &mut self,
@@ -155,14 +155,14 @@ impl Part {
             .rank(contest.candidates.as_slice(), &self.guesses, preferences)
     }
 
-    /// Of how many candidates the ballots are counted, if they are.
+    /// For how many candidates the ballots are counted, if they are.
     pub fn counted(&self) -> Option<u32>
         ensures { result ≡ self.now.counted }
     {
         self.cast.counted_of()
     }
 
-    /// Puts the rankings of another part behind its own, which are counted where these are. Where ballots come from is left as it is.
+    /// Puts the rankings of another part after its own, which are counted if these are. Where ballots come from is left as it is.
     pub fn append(&mut self, other: &Part) -> Result<(), Memory>
         requires { other.now.counted ≡ self.now.counted }
         ensures { OnOk result (self.new ≡ with_rankings self.old other.now.rankings) }
@@ -171,8 +171,8 @@ impl Part {
     }
 }
 
-/// Keeps the ballot of this id with these preferences in the record number `at` in the part at the place of its contest, if there is
-/// one. It tells whether the preferences are candidates of the contest.
+/// Keeps the ballot of this id with these preferences in the record number `at` in the part at the place of its contest, if there is one.
+/// It answers whether the preferences are candidates of the contest.
 pub fn keep(
     parts: &mut Vec<Option<Part>>,
     place: usize,

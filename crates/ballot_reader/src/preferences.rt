@@ -2,17 +2,17 @@
 ghost use Rattle.std.specs.Prelude.{◌≡◌, ◌≤◌, ◌++◌, ◌∷◌, [], ℕ, List, Some, IfOk, IsTrue, is_some, length};
 ghost use Rattle.irv_base.specs.declared.limits.TheConstants.{ROOM};
 ghost use Rattle.irv_base.specs.Names.{all_differ, candidate_named};
-ghost use Rattle.ballot_reader.specs.Grammar.{are_names, ranking_of};
+ghost use Rattle.ballot_reader.specs.Grammar.{ranking_of};
 
 use crate::guesses::Guesses;
+use crate::listed::Listed;
 use crate::same::is_same;
 use crate::taker::RankingTaker;
 use csv_rows::Fields;
-use indexmap::IndexSet;
 use irv_base::{CandSet, Candidate, Memory, Name, Ranking, candidate_named};
 
-// The candidate with that id, first sought where it is guessed to stand. It isn't made part of what calls it: that has fewer instructions
-// and takes a tenth longer.
+// The candidate with that id, first sought at its guessed place. It isn't inlined: the caller then has fewer instructions, but takes a
+// tenth longer.
 #[inline(never)]
 fn candidate_of(candidates: &[Name], guesses: &Guesses, id: &[u8]) -> Option<Candidate>
     requires few { length candidates.now ≤ ROOM }
@@ -26,9 +26,9 @@ fn candidate_of(candidates: &[Name], guesses: &Guesses, id: &[u8]) -> Option<Can
     candidate_named(candidates, id)
 }
 
-/// Puts the ranking of these preferences last, as `ranking_of` gives it, and tells whether there is one. Where there is none, what
-/// is put last isn't told. Guesses save time, and need candidates that are all different. It isn't made part of what calls it, since the
-/// processor has too few registers for both.
+/// Puts the ranking of these preferences last, as `ranking_of` gives it, and answers whether there is one. If there is none, what is put
+/// last is unknown. Guesses save time, and need candidates that are all different. It isn't inlined, since the processor has too few
+/// registers for both.
 #[inline(never)]
 pub(crate) fn rank<T: RankingTaker>(
     candidates: &[Name],
@@ -79,20 +79,15 @@ pub fn ranking_of(candidates: &[Name], preferences: Fields<'_>) -> Option<Rankin
     Some(ranking)
 }
 
-fn is_candidate(candidates: &IndexSet<Name>, id: &[u8]) -> bool
-    requires { IsTrue (are_names candidates.now.keys) }
-    ensures { result ≡ is_some (candidate_named candidates.now.keys id.now) }
+fn is_candidate(candidates: &Listed, id: &[u8]) -> bool
+    ensures { result ≡ is_some (candidate_named candidates.now id.now) }
 {
-    match Name::read(id) {
-        Some(name) => candidates.contains(&name),
-        None => false,
-    }
+    candidates.has(id)
 }
 
 /// Each of these preferences that isn't blank is one of the candidates, of whom there may be many.
-pub fn are_candidates(candidates: &IndexSet<Name>, preferences: Fields<'_>) -> bool
-    requires { IsTrue (are_names candidates.now.keys) }
-    ensures { result ≡ is_some (ranking_of candidates.now.keys preferences.entry) }
+pub fn are_candidates(candidates: &Listed, preferences: Fields<'_>) -> bool
+    ensures { result ≡ is_some (ranking_of candidates.now preferences.entry) }
 {
     for preference in preferences {
         if preference.is_empty() {

@@ -25,10 +25,10 @@ use csv_rows::{Records, without_mark};
 use irv_base::{FEWEST_CANDIDATES, MOST_CANDIDATES, MOST_RECORDS, Memory, Name};
 use std::alloc::Global;
 
-// The record of the first contest, counted from 1: the number of contests stands before it.
+// The record of the first contest, counted from 1: the number of contests comes before it.
 const FIRST_CONTEST: u32 = 2;
 
-// How many bytes a ballot's record has, or about that. Room is made for so many ballots first, and for more when they come.
+// How many bytes a ballot's record has, or about that. Room is made for this many ballots first, and for more when they come.
 const RECORD_BYTES: usize = 40;
 
 /// The contests in the next n records.
@@ -126,7 +126,7 @@ fn see_all_audited(contests: &[Contest]) -> Result<(), BallotFault>
     Err(BallotFault::at_record(BRule::B3, contest.at))
 }
 
-/// Keeps the ballots in the records that are left, the first of which has this number, and tells the number that comes next.
+/// Keeps the ballots in the records that are left, the first of which has this number, and answers the number that comes next.
 pub fn add_ballots(
     contests: &[Contest],
     kept: &mut Kept,
@@ -180,7 +180,7 @@ pub fn ballots_left(
     Ok(kept)
 }
 
-// The list of a contest's candidates, without the set by which they were told apart.
+// The list of a contest's candidates, without the order in which they are found.
 fn candidates_of(alloc: Global, contest: &Contest) -> Result<Vec<Name>, Memory>
     ensures { IfOk result (λ candidates. candidates.items ≡ contest.now.candidates) }
 {
@@ -203,7 +203,7 @@ fn votes_of(alloc: Global, contest: Contest, cast: Cast) -> Result<Votes, Memory
     Ok(Votes::of(contest.id, candidates, cast))
 }
 
-// A contest with its ballots, of which it is kept where they come from.
+// A contest with its ballots, whose origin is kept.
 fn ballots_with(alloc: Global, contest: Contest, part: Part) -> Result<Ballots, Memory>
     requires sized { IsTrue (has_audited_size contest.candidates) }
     requires listed { part.counted ≡ None }
@@ -355,23 +355,23 @@ fn room_for(bytes: &[u8]) -> usize {
     (bytes.len() / RECORD_BYTES).min(MOST_RECORDS as usize)
 }
 
-/// Reads a ballot file: the contest that is asked for, or, where none is, the only one.
+/// Reads a ballot file: the contest that is asked for, or the only one if none is.
 ///
-/// The first record's first field is the number of contests, 1 to `MOST_CONTESTS`. So many contest records follow, each with the
-/// fields `Contest`, the contest's id, the number of its candidates, 1 to `MOST_LISTED`, their ids, and further fields, which are
-/// ignored. Every other record is a ballot: the id of its contest, its own, and candidates' ids, the most preferred first. Blank
-/// preferences are passed over, and a repeated candidate counts at its first place.
+/// The first record's first field is the number of contests, 1 to `MOST_CONTESTS`. That many contest records follow, each with the fields
+/// `Contest`, the contest's id, the number of its candidates, 1 to `MOST_LISTED`, their ids, and further fields, which are ignored. Every
+/// other record is a ballot: the id of its contest, its own, and candidates' ids, the most preferred first. Blank preferences are
+/// skipped, and a repeated candidate counts at its first place.
 ///
-/// Spaces and tabs round a field are taken off. A record whose only field is empty then is passed over and has no number. A byte
-/// order mark at the front is taken off.
+/// Spaces and tabs around a field are removed. If the only field of a record is then empty, it is skipped and has no number. A byte order
+/// mark at the front is removed.
 ///
 /// It is refused by the first rule that a record breaks. B1 at 1: the number of contests isn't that. In a contest's record B2: it is
-/// missing, has fewer than three fields, doesn't begin with `Contest` or repeats a contest's id; B3: the number of candidates isn't
-/// that, or fewer ids follow; B4: an id is none, or a candidate stands twice. After the contests B5 at 1: the contest asked for isn't
-/// there, or none was asked for and there are several; B3 at its record: it hasn't `FEWEST_CANDIDATES` to `MOST_CANDIDATES`
-/// candidates. In a ballot's record B10: it is one more than `MOST_RECORDS`; B6: it has fewer than two fields; B4: its id is none;
-/// B7: its contest isn't there; B9: its id stood before in this contest; B8: a preference isn't a candidate of its contest. Ballots
-/// of other contests are judged likewise and not kept.
+/// missing, has fewer than three fields, doesn't begin with `Contest` or repeats a contest's id; B3: the number of candidates isn't that,
+/// or fewer ids follow; B4: an id is none, or a candidate is repeated. After the contests B5 at 1: the contest asked for isn't there, or
+/// none was asked for and there are several; B3 at its record: it doesn't have `FEWEST_CANDIDATES` to `MOST_CANDIDATES` candidates. In a
+/// ballot's record B10: it is one more than `MOST_RECORDS`; B6: it has fewer than two fields; B4: its id is none; B7: its contest isn't
+/// there; B9: an earlier ballot of this contest has its id; B8: a preference isn't a candidate of its contest. Ballots of other contests
+/// are judged in the same way and not kept.
 pub fn read_ballots(
     alloc: Global,
     bytes: &[u8],
@@ -388,8 +388,8 @@ pub fn read_ballots(
 
 /// Reads all contests of a ballot file, in their order there, each as `read_ballots` reads it by its id.
 ///
-/// It is refused exactly where `read_ballots` refuses one of them, with the refusal that comes first: by the rules that are told
-/// there, but B5, in whose place B3 is judged of all contests in their order.
+/// It is refused exactly if `read_ballots` refuses one of them, with the refusal that comes first: by the rules that are given there,
+/// except B5, in whose place B3 is judged for all contests in their order.
 pub fn read_contests(alloc: Global, bytes: &[u8]) -> Result<Vec<Ballots>, BallotFault>
     ensures read { IfOk result (λ files. contests_of bytes.now ≡ Ok files.items) }
     ensures refused { IfErr result (Refuses (contests_of bytes.now)) }

@@ -1,4 +1,10 @@
 // Ballots in lines that several workers read side by side.
+//
+// The first part is read after what is kept, as one worker reads it. Each other part is read as if no ballot came before it, and then
+// added: tables are added up, rankings and pages of ids are joined. That no id is in two parts is known from the pages: those with one
+// number are for ids alike, and share no bit. If that can't be known, if a record is refused, or if there are too many ballots, the lines
+// of the part are read again in order, so a refusal is always the one that one worker finds. Starting and ending workers takes about a
+// millisecond, so parts of less than 3 MiB would take longer.
 ghost use Rattle.std.specs.Prelude.{ℕ, ◌≤◌, List, IfOk, IfErr, IfSome, IsTrue, length};
 ghost use Rattle.std.specs.Thread.{IsSync};
 ghost use Rattle.irv_base.specs.Names.{all_differ};
@@ -24,7 +30,7 @@ use std::thread::Threads;
 // Fewer bytes of lines are read sooner than a thread is started for them.
 const FEWEST_BYTES: usize = 128 << 10;
 
-// What is kept of the ballots in these lines, as if none stood before them. It is nothing where a record is refused.
+// What is kept of the ballots in these lines, as if none came before them. It is nothing if a record is refused.
 fn read_alone(
     alloc: Global,
     contests: &[Contest],
@@ -44,7 +50,7 @@ fn read_alone(
     }
 }
 
-// Keeps the ballots in these lines, which come behind those that are kept, one after the other.
+// Keeps the ballots in these lines, which come after those that are kept, one after the other.
 fn add_in_order(
     contests: &[Contest],
     kept: &mut Kept,
@@ -64,7 +70,7 @@ fn add_in_order(
     add_ballots(contests, kept, first, &mut records)
 }
 
-// The same by a worker that is started for it. This one waits: if it read, another that it has started might stand behind it on its processor.
+// The same by a worker that is started for it. This one waits: if it read, a worker that it has started might be put on its processor.
 fn add_in_thread<R: Threads + Sync>(
     rt: &R,
     contests: &[Contest],
@@ -91,7 +97,7 @@ fn add_in_thread<R: Threads + Sync>(
     next
 }
 
-// Puts what was read alone of these lines behind what is kept. Where there is nothing of that kind, or it can't be put there, the lines are
+// Puts what was read alone of these lines after what is kept. If there is nothing of that kind, or it can't be put there, the lines are
 // read in order.
 fn put_behind(
     contests: &[Contest],
@@ -121,8 +127,8 @@ fn put_behind(
     add_in_order(contests, kept, first, lines)
 }
 
-// Keeps the ballots in the lines in front, the first of which is in the record number `first`, by so many workers. A further one reads those
-// behind meanwhile, as if nothing stood before them.
+// Keeps the ballots in the lines in front, the first of which is in the record number `first`, by this many workers. Meanwhile a further
+// one reads those after them, as if nothing came before them.
 #[cycle(behind)]
 fn read_both<R: Threads + Sync>(
     rt: &R,
@@ -156,7 +162,8 @@ fn read_both<R: Threads + Sync>(
     thread::join_mut(rt, &mut read_behind, &mut read_front)
 }
 
-// Keeps the ballots in these lines, the first of which is in the record number `first`, by so many workers, and tells the number that comes next.
+// Keeps the ballots in these lines, the first of which is in the record number `first`, by this many workers, and answers the number that
+// comes next.
 #[cycle(behind)]
 fn add_parts<R: Threads + Sync>(
     rt: &R,
@@ -192,8 +199,8 @@ fn workers_for(kept: &Kept, lines: &PlainLines<'_>, workers: u32) -> usize {
     (workers as usize).min(lines.len() / FEWEST_BYTES)
 }
 
-/// Keeps the ballots in these lines, the first of which is in the record number `first`, and tells the number that comes next. Where it is worth
-/// that, the workers read parts of the lines side by side.
+/// Keeps the ballots in these lines, the first of which is in the record number `first`, and answers the number that comes next. If it
+/// pays, the workers read parts of the lines at the same time.
 pub fn add_lines<R: Threads + Sync>(
     rt: &R,
     alloc: Global,

@@ -41,7 +41,14 @@ impl Sorted {
         self.ids.is_empty()
     }
 
-    /// Puts an id among them, and tells whether it wasn't there.
+    /// Whether the id is one of them.
+    pub fn has(&self, id: &[u8]) -> bool
+        ensures { result ≡ is_among self.now id.now }
+    {
+        self.ids.contains(id)
+    }
+
+    /// Puts an id among them, and answers whether it wasn't there.
     pub fn put(&mut self, alloc: Global, id: &[u8]) -> Result<bool, Memory>
         ensures new { IfOk result (λ new. new ≡ not (is_among self.old id.now)) }
         ensures put { OnOk result ((other : Id)

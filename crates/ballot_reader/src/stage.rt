@@ -20,8 +20,8 @@ use irv_base::{Memory, Name};
 use std::alloc::Global;
 use std::thread::Threads;
 
-/// So many bytes of whole lines at the front of a file are looked at for its contests, at most: while these aren't whole, each piece has them
-/// looked at again.
+/// At most this many bytes of whole lines at the front of a file are searched for its contests: while these aren't whole, they are looked
+/// at again with each piece.
 pub const MOST_OF_CONTESTS: usize = 4 << 20;
 
 /// How far a ballot file is read.
@@ -35,7 +35,7 @@ pub enum Stage {
     Refused(BallotFault),
 }
 
-// Reads the ballots in these records. Where one is refused, so is the file.
+// Reads the ballots in these records. If one is refused, so is the file.
 fn added(begun: Begun, records: &mut Records<'_>) -> Result<Stage, Memory>
     ensures reached { IfOk result (λ stage. (asked : Option Id) → (rows : List FieldList)
         → HasBegun asked rows begun → HasReached asked (rows ++ records.old.left) stage) }
@@ -48,7 +48,7 @@ fn added(begun: Begun, records: &mut Records<'_>) -> Result<Stage, Memory>
     }
 }
 
-// The same of those in these lines, by so many workers.
+// The same for those in these lines, by this many workers.
 fn added_lines<R: Threads + Sync>(
     rt: &R,
     alloc: Global,
@@ -67,8 +67,8 @@ fn added_lines<R: Threads + Sync>(
     }
 }
 
-// Reads the contests at the front of a file's records, and the ballots behind them. It is nothing where the contests can't be read: a record of
-// theirs is still to come, or one is refused. (The clause says no more than that a file of these records is refused.)
+// Reads the contests at the front of a file's records, and the ballots after them. It is nothing if the contests can't be read: a record
+// of theirs is still to come, or one is refused. (The clause says no more than that a file of these records is refused.)
 fn first_stage(
     alloc: Global,
     asked: Option<&Name>,
@@ -87,7 +87,7 @@ fn first_stage(
     }
 }
 
-// Reads lines that come next, and tells how far the file is read then. It is nothing where the contests aren't read yet and can't be.
+// Reads lines that come next, and answers how far the file is read then. It is nothing if the contests aren't read yet and can't be.
 fn stage_behind<R: Threads + Sync>(
     rt: &R,
     alloc: Global,
@@ -123,8 +123,8 @@ pub struct Step {
 }
 
 impl Stage {
-    // Whether the whole lines at hand aren't read now: ballots wait where there are no more than so many bytes, and contests where there are more
-    // than are looked at. That any wait is no promise.
+    // Whether the whole lines at hand aren't read now: ballots wait if there are no more than this many bytes, and contests if there are
+    // more than are looked at. That any wait is no promise.
     fn waits(&self, pieces: &Pieces, holds: usize) -> bool
         ensures { IsTrue result → (asked : Option Id)
             → HoldsLittle asked holds pieces.now.lines self.now }
@@ -136,7 +136,7 @@ impl Stage {
         }
     }
 
-    /// Reads the whole lines at hand by so many workers, if that can be. Ballots may wait until more than `holds` bytes are at hand.
+    /// Reads the whole lines at hand by this many workers, if that can be. Ballots may wait until more than `holds` bytes are at hand.
     pub fn after<R: Threads + Sync>(
         self,
         rt: &R,
@@ -178,7 +178,7 @@ impl Stage {
         }
     }
 
-    // What is begun, where need be by reading the contests from these records.
+    // What is begun, if necessary by reading the contests from these records.
     fn begun(
         self,
         alloc: Global,
@@ -200,7 +200,7 @@ impl Stage {
         }
     }
 
-    /// The votes of the contest, where these are the last records.
+    /// The votes of the contest, if these are the last records.
     pub fn votes(
         self,
         alloc: Global,

@@ -51,7 +51,7 @@ impl Votes {
         Votes::of(contest, candidates, Cast::Listed(rankings))
     }
 
-    // The same, where rankings may be counted.
+    // The same, if rankings may be counted.
     pub(crate) fn of(contest: Name, candidates: Vec<Name>, cast: Cast) -> Votes
         requires candidates { AreCandidates candidates.items }
         requires own { IfSome (counted_of cast) (λ n. n ≡ length candidates.items) }
@@ -92,7 +92,7 @@ impl Votes {
         self.cast.len() as u32
     }
 
-    /// The ballots, counted, by at most so many workers where they weren't counted as they were read.
+    /// The ballots, counted, by at most this many workers if they weren't counted as they were read.
     pub fn counted<R: AllocGlobal + Threads + Sync>(
         &self,
         rt: &R,

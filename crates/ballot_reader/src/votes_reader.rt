@@ -24,14 +24,16 @@ use std::thread::Threads;
 /// too often. With more they might not be looked at (`csv_rows::MOST_AT_HAND`).
 pub const SIDE_BY_SIDE: usize = 6 << 20;
 
-/// Reads the votes of a contest from a ballot file that comes in pieces, by one worker or by several. Of the file it keeps the lines that
-/// aren't read yet: most often the last alone, and with several workers up to `SIDE_BY_SIDE` bytes of whole lines. From lines on that come with a
-/// double quote, or a byte EF that is no byte order mark at the front, it keeps all that comes, and reads that at the end; so it does where
-/// the contests are refused, or have more than `MOST_OF_CONTESTS` bytes with the lines that come in the same piece, or where one line or the
-/// lines in one piece together with what waits have more than `csv_rows` looks at (`MOST_AT_HAND`). Once a ballot is refused, nothing more is kept.
+/// Reads the votes of a contest from a ballot file that comes in pieces, by one worker or by several. It keeps the lines of the file that
+/// aren't read yet: mostly the last one, and with several workers up to `SIDE_BY_SIDE` bytes of whole lines.
 ///
-/// To a contract it is the contest that is asked for, how many bytes of whole lines may wait for more, what is at hand of the file, and how
-/// far the file is read.
+/// It keeps everything that comes, and reads it at the end, from the first lines on that come with a double quote, or with a byte EF that
+/// is no byte order mark at the front. It also does so if the contests are refused, if they have more than `MOST_OF_CONTESTS` bytes with
+/// the lines that come in the same piece, or if one line, or the lines in one piece together with what waits, have more than `csv_rows`
+/// looks at (`MOST_AT_HAND`). Once a ballot is refused, nothing more is kept.
+///
+/// To a contract it is the contest that is asked for, how many bytes of whole lines may wait for more, what is at hand of the file, and
+/// how far the file is read.
 #[derive(Drop)]
 pub struct VotesReader<'r, R: Threads + Sync> {
     rt: &'r R,
@@ -60,7 +62,7 @@ impl<'r, R: Threads + Sync> Model for VotesReader<'r, R> {
     } };
 }
 
-// How many bytes of whole lines may wait for more before so many workers read them.
+// How many bytes of whole lines may wait for more before this many workers read them.
 fn held_by(workers: u32) -> usize
     ensures alone { workers ≤ 1 → result ≡ 0 }
     ensures most { result ≤ SIDE_BY_SIDE }
@@ -69,7 +71,7 @@ fn held_by(workers: u32) -> usize
 }
 
 impl<'r, R: Threads + Sync> VotesReader<'r, R> {
-    /// Of the contest with this id, or of the only one, by so many workers. Nothing of the file came yet.
+    /// For the contest with this id, or for the only one, by this many workers. Nothing of the file came yet.
     pub fn new(rt: &'r R, alloc: Global, contest: Option<Name>, workers: u32) -> VotesReader<'r, R>
         ensures asked { result.asked ≡ contest }
         ensures alone { workers ≤ 1 → result.holds ≡ 0 }
@@ -129,7 +131,7 @@ impl<'r, R: Threads + Sync> VotesReader<'r, R> {
         self.take(&[])
     }
 
-    /// The votes of the contest, when all of the file came; or why it isn't read, as `read_ballots` tells it.
+    /// The votes of the contest, once the whole file came; or why it isn't read, as `read_ballots` says.
     pub fn into_votes(mut self) -> Result<Votes, BallotFault>
         ensures read { IfOk result (λ votes. (bytes : List ℕ) → HasTaken self.entry bytes
             → (file : BallotFile) × (ballots_of bytes self.entry.asked ≡ Ok file)

@@ -2,14 +2,14 @@
 ghost use Rattle.std.specs.Prelude.{◌≡◌};
 ghost use Rattle.ballot_reader.specs.Kept.{is_wanted, keeps_origins};
 
-/// Of which contests of a file the ballots are kept.
+/// The contests of a file whose ballots are kept.
 #[derive(Clone, Copy)]
 pub enum Wanted {
-    /// Of the contest at this place, from 0.
+    /// The contest at this place, from 0.
     One(usize),
-    /// Of that at this place, without their ids and places.
+    /// The one at this place, without ids and places.
     VotesOf(usize),
-    /// Of each contest.
+    /// Each contest.
     All,
 }
 
@@ -31,7 +31,7 @@ impl Wanted {
         !matches!(self, Wanted::VotesOf(_))
     }
 
-    // For how many ballots of the contest at a place room is made first, where there is room for so many of all these contests.
+    // For how many ballots of the contest at a place room is made first, if there is room for this many of all these contests.
     pub(crate) fn room(self, place: usize, contests: usize, room: usize) -> usize {
         match self {
             Wanted::One(only) | Wanted::VotesOf(only) if place == only => room,

@@ -1,5 +1,5 @@
--- A front: the open suffixes of one piece, and what its turns say. A piece is the suffixes that end in one, and a bag stands for the
--- records that it is of, whichever they are.
+-- A front: the open suffixes of one piece, and what its turns say. A piece is the suffixes with the same two last candidates. A bag means
+-- the records that it is of, whichever they are.
 use Rattle.std.specs.Prelude.{◌≡◌, ◌⊎◌, ℕ, ◌+◌, ◌<◌, ◌≤◌, ◌==◌, true, min, List, [], ◌∷◌, ◌++◌, length, count_by, All, Contains, IsTrue, IsFalse}
 use Rattle.std.specs.List.Sorted.{IsPermutation}
 use Rattle.irv_base.specs.Orders.{is_order, EndsIn}

@@ -16,7 +16,7 @@ OrdersStayOpen =
     low bag.n records order < f.bound → low bag.n records order < f.least →
     EndsInOne f.suffixes order
 
--- where no open suffix is below the bound, no order of the piece is below it and below the least margin found
+-- if no open suffix is below the bound, no order of the piece is below it and below the least margin found
 abbrev pub ClosedAbove : Type 0
 ClosedAbove =
     (bag : Kept) (records : List (List ℕ)) (f : Frontier) → IsOf bag records → IsFront bag f →
@@ -24,14 +24,14 @@ ClosedAbove =
     (order : List ℕ) → IsTrue (is_order bag.n order) → EndsIn order f.piece.list →
     (f.bound ≤ low bag.n records order) ⊎ (f.least ≤ low bag.n records order)
 
--- where each expanded suffix is below the limit, no more were expanded than there are below it
+-- if each expanded suffix is below the limit, no more were expanded than there are below it
 abbrev pub MostExpanded : Type 0
 MostExpanded =
     (bag : Kept) (records : List (List ℕ)) (done : List (List ℕ)) (limit : ℕ) (f : Frontier) →
     IsOf bag records → IsAfter bag done f → AreBelow bag limit done →
     f.expanded ≤ parts_below bag.n records limit f.piece.list
 
--- where no open suffix is below the bound, no fewer were expanded than there are below it and below the least margin found
+-- if no open suffix is below the bound, no fewer were expanded than there are below it and below the least margin found
 abbrev pub LeastExpanded : Type 0
 LeastExpanded =
     (bag : Kept) (records : List (List ℕ)) (f : Frontier) → IsOf bag records →

@@ -26,7 +26,7 @@ pub record IsStart (bag : Kept) (tab : Tabulated) (start : Start) : Type 0 where
 abbrev pub IsClosedEntry : Kept → ℕ → PieceEnd → Type 0
 IsClosedEntry bag bound p = IsClosedAt bag bound p.tail.list p.expanded
 
--- a spent piece leaves the best margin open only where no order of hardness 0 is known
+-- a spent piece leaves the best margin open only if no order of hardness 0 is known
 abbrev pub spent_above : ℕ → Option ℕ → Option ℕ
 spent_above margin spent = if margin == 0 then None else spent
 

@@ -87,7 +87,7 @@ pub record IsFoundIn (bag : Kept) (tails : List Suffix) (e : Best) : Type 0 wher
   pub one : Contains tails tail
   pub found : IsFound bag tail.list e.order e.margin
 
--- no order was found exactly where nothing was posted, and else the one of the least post was
+-- no order was found exactly if nothing was posted; otherwise the order of the least post was found
 abbrev pub IsBestFound : Kept → List Suffix → ℕ → Option Best → Type 0
 IsBestFound bag tails posted best =
     MatchOption best (posted ≡ highest)
@@ -110,7 +110,7 @@ IsCostly bag first nodes tails number =
 abbrev pub left_open : WorkerEnd → List ℕ
 left_open e = e.spent.items ++ e.skipped.items
 
--- a piece that is left open is spent where none was before, and else skipped
+-- a piece that is left open is spent if none was before, and skipped otherwise
 abbrev pub spent_with : Bool → List ℕ → ℕ → List ℕ
 spent_with true spent piece = spent
 spent_with false [] piece = piece ∷ []

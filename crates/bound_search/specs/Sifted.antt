@@ -42,7 +42,7 @@ pub record Replaced (old fresh new : List Scored) : Type 0 where
   pub taken : IsPermutation old (top ∷ rest)
   pub joined : IsPermutation (rest ++ fresh) new
 
--- the children stand in the place of the first suffix, or are pruned, or found
+-- the children take the place of the first suffix, or are pruned, or found
 pub record IsPut (children : List Scored) (old new : Frontier) (found : Option Scored)
     : Type 0 where
   pub fresh : List Scored

@@ -68,15 +68,15 @@ pub struct RaceEnd {
     pub pieces: Vec<PieceEnd>,
     /// What each worker did.
     pub workers: Vec<Report>,
-    /// The records with the sums over all sets, where the race made these.
+    /// The records with the sums over all sets, if the race made these.
     pub summed: Option<Counted>,
 }
 
 /// Why a race has no best margin.
 #[derive(Clone, Copy)]
 pub enum RaceFault {
-    /// A piece whose orders elect `last` has more work than the budget. `order` is an alternative order
-    /// of hardness `upper`, the least that was found, which is above 0.
+    /// A piece whose orders elect `last` has more work than the budget. `order` is an alternative order of hardness `upper`, the least
+    /// that was found, which is above 0.
     Spent {
         last: Candidate,
         upper: u32,

@@ -66,7 +66,7 @@ impl Front {
         ensures none_expanded { IfOk result (λ f. f.expanded ≡ 0) }
     {
         let piece = start.tail;
-        // The list promises what no field of a tail tells: its candidates are distinct, and of the contest.
+        // The list promises what no field of a tail says: its candidates are distinct, and of the contest.
         let _suffix = start.tail.list();
         let mut suffixes = BinaryHeap::new(alloc);
         suffixes.push(start)?;
@@ -142,7 +142,7 @@ impl Front {
         order
     }
 
-    // Puts the children in the place of the first suffix. Where memory is short nothing changes.
+    // Puts the children in the place of the first suffix. If memory is short nothing changes.
     pub(crate) fn put(
         &mut self,
         alloc: Global,

@@ -41,7 +41,7 @@ fn better(best: Best, found: Option<Best>) -> Best
     }
 }
 
-// The number that is there, or else the first of the others.
+// The number that is there, or otherwise the first of the others.
 fn first_of(number: Option<u32>, others: &[u32]) -> Option<u32>
     ensures { result ≡ first_of number others.now }
 {
@@ -68,7 +68,7 @@ fn report_of(end: &WorkerEnd) -> Report
     }
 }
 
-/// Puts together what the workers came to, beside the order that the race started from.
+/// Puts together the results of the workers and the order that the race started from.
 pub(crate) fn join(alloc: Global, team: Vec<Worker>, start: Best) -> Result<Joined, Memory>
     requires few { All HasFewEnds team.items }
     ensures seats { IfOk result (λ j. j.seats.items ≡ map (λ w. w.seat) team.items) }

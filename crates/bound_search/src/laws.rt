@@ -8,7 +8,7 @@ pub fn orders_stay_open()
     ensures { OrdersStayOpen }
 {}
 
-/// Where no open suffix is below the bound, no order of the piece is below it and below the least margin found.
+/// If no open suffix is below the bound, no order of the piece is below it and below the least margin found.
 pub fn closed_above()
     ensures { ClosedAbove }
 {}
@@ -18,8 +18,7 @@ pub fn most_expanded()
     ensures { MostExpanded }
 {}
 
-/// Where no open suffix is below the bound, no fewer suffixes were expanded than the piece has below it and below the least
-/// margin found.
+/// If no open suffix is below the bound, no fewer suffixes were expanded than the piece has below it and below the least margin found.
 pub fn least_expanded()
     ensures { LeastExpanded }
 {}

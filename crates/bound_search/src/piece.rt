@@ -21,7 +21,7 @@ pub struct Searched {
     pub expanded: u32,
     /// How often the worker looked at the bound.
     pub looks: u64,
-    /// Was the piece closed, or else the budget spent?
+    /// Was the piece closed, or the budget spent?
     pub closed: bool,
 }
 

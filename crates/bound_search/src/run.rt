@@ -27,7 +27,7 @@ pub(crate) struct Raced {
     pub spent: Option<u32>,
 }
 
-/// What a race came to, and the records that it was over, with the sums over all sets, where it made these.
+/// The result of a race, and the records that it was over, with the sums over all sets, if it made these.
 #[derive(Drop)]
 pub(crate) struct Run {
     /// What it came to.
@@ -89,7 +89,7 @@ fn run_once<R: AllocGlobal + Threads + Sync, G: Gate + Sync>(
     })
 }
 
-/// Runs a race over these pieces, from the order `first` on. Where rows of tallies take long, it is run anew with sums over all sets, which
+/// Runs a race over these pieces, from the order `first` on. If rows of tallies take long, it runs again with sums over all sets, which
 /// all workers share.
 pub(crate) fn run_race<R: AllocGlobal + Threads + Sync, G: Gate + Sync>(
     rt: &R,

@@ -28,15 +28,15 @@ fn spent_on(tail: &Tail, best: Best) -> RaceFault
     }
 }
 
-/// The best margin over the records, and an order of that hardness: of all that elect another candidate than the winner of
-/// `tab`, none has a smaller greatest margin of a true assertion that refutes it.
+/// The best margin over the records, and an order of that hardness: of all that elect another candidate than the winner of `tab`, none
+/// has a smaller greatest margin of a true assertion that refutes it.
 ///
-/// `tab` is the tabulation of the records. The workers take the pieces, two candidates that an order ends in, in their order.
-/// Each has tallies of its own, and all search under one bound. Each piece has the whole budget of `nodes` suffixes. Where
-/// that of some piece is spent, the answer is its last candidate and the least order found, but where that is of hardness 0: then the
-/// best margin is 0, whatever was spent. The other error is want of memory.
+/// `tab` is the tabulation of the records. The workers take the pieces, two candidates that an order ends in, in their order. Each has
+/// tallies of its own, and all search under one bound. Each piece has the whole budget of `nodes` suffixes. If that of some piece is
+/// spent, the answer is its last candidate and the least order found, unless that order is of hardness 0: then the best margin is 0,
+/// whatever was spent. The other error is want of memory.
 ///
-/// Where rows of tallies take long, the race makes the sums over all sets, and hands them on.
+/// If rows of tallies take long, the race makes the sums over all sets, and returns them.
 pub fn race<R: AllocGlobal + Threads + Sync, G: Gate + Sync>(
     rt: &R,
     counted: &Counted,

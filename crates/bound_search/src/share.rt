@@ -15,7 +15,7 @@ use std::marker::Brand;
 use std::sync::ledger::Blank;
 use suffix_tree::Tail;
 
-// Notes the piece where it was left open: as spent where none was before, else as skipped.
+// Notes the piece if it was left open: as spent if none was before, and as skipped otherwise.
 fn note(
     spent: &mut Vec<u32>,
     skipped: &mut Vec<u32>,
@@ -77,12 +77,11 @@ fn search_or_skip(
     Ok(searched)
 }
 
-/// The share of one worker of a race: it takes a piece, searches it, and takes the next, until none is left. Once the budget
-/// of a piece is spent, so is that of the race, and the worker skips what it takes after. For each piece that it takes the gate is
-/// called first.
+/// The share of one worker of a race: it takes a piece, searches it, and takes the next, until none is left. Once the budget of a piece
+/// is spent, so is that of the race, and the worker skips what it takes after. For each piece that it takes the gate is called first.
 ///
-/// `tails` are the pieces of the race in the order of their numbers, each by the suffix that its orders end in. The seat is one
-/// of the race that did nothing yet. Each piece has the whole budget of `nodes` suffixes. The one error is want of memory.
+/// `tails` are the pieces of the race in the order of their numbers, each by the suffix that its orders end in. The seat is one of the
+/// race that did nothing yet. Each piece has the whole budget of `nodes` suffixes. The one error is want of memory.
 pub fn work<G: Gate + Sync>(
     alloc: Global,
     race: &Race,

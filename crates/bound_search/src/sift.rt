@@ -56,7 +56,7 @@ pub fn sift(alloc: Global, children: Vec<Scored>, bound: u32) -> Result<Sifted, 
     Ok(Sifted { fresh, found })
 }
 
-/// Takes the first suffix, and puts the fresh ones in. Where memory is short nothing changes.
+/// Takes the first suffix, and puts the fresh ones in. If memory is short nothing changes.
 pub fn replace_first(
     suffixes: &mut BinaryHeap<Scored>,
     fresh: BinaryHeap<Scored>,

@@ -21,7 +21,7 @@ use suffix_tree::Tail;
 pub(crate) struct Worker {
     /// Its seat in the race.
     pub seat: RaceSeat,
-    /// What it came to, or `Memory` where it couldn't go on or hasn't begun.
+    /// Its result, or `Memory` if it couldn't go on or hasn't begun.
     pub end: Result<WorkerEnd, Memory>,
 }
 

@@ -61,11 +61,10 @@ impl Front {
         self.put(alloc, children)
     }
 
-    /// Expands open suffixes that are below the bound, at most `MOST_EXPANDED` and at most `left`, until an order below the
-    /// bound is found or none is left. Each is one step.
+    /// Expands open suffixes that are below the bound, at most `MOST_EXPANDED` and at most `left`, until an order below the bound is
+    /// found or none is left. Each is one step.
     ///
-    /// The bound is at most that of the turn before. The one error is want of memory, after which the front stands for the
-    /// same orders.
+    /// The bound is at most that of the turn before. The one error is want of memory, after which the front covers the same orders.
     pub fn turn<L: Ledger>(
         &mut self,
         alloc: Global,

@@ -3,8 +3,8 @@
 /// How far a walk through elimination orders may go.
 #[derive(Clone, Copy, Debug, PartialEq, Eq)]
 pub enum Budget {
-    /// So many suffixes for each piece of a race, and for each candidate who didn't win.
+    /// This many suffixes for each piece of a race, and for each candidate who didn't win.
     Nodes(u32),
-    /// So many sets of candidates, for all orders together.
+    /// This many sets of candidates, for all orders together.
     Sets(u32),
 }

@@ -3,7 +3,7 @@
 /// The greatest number of suffixes that a line may allow a race for one piece, and a certificate or a check for one candidate.
 pub const MOST_NODES: u32 = 200_000;
 
-/// The number of suffixes that is allowed where a line doesn't say.
+/// The number of suffixes that is allowed by default.
 pub const DEFAULT_NODES: u32 = 100_000;
 
 /// The greatest number of sets of candidates that a line may allow a search, a trial, a check, a trim, or an audit that is opened or goes

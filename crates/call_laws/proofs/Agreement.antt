@@ -10,12 +10,12 @@ use Rattle.command_line.specs.Line.{command_of}
 use Rattle.command_line.specs.declared.commands.Command.{Command}
 use Rattle.command_line.specs.declared.commands.Command.TheVariants.{Contests}
 use Rattle.raire_cli.specs.Asks.{Asks}
-use Rattle.call_laws.specs.Agreement.{HoldTheSame, MayBeSpent, SameFilesSameAnswer, WorkersSameAnswer}
-use Rattle.raire_cli.specs.Answers.{script_of, asked_by, is_open}
+use Rattle.call_laws.specs.Agreement.{HoldTheSame, MayBeSpent, MayChoose, SameFilesSameAnswer, WorkersSameAnswer}
+use Rattle.raire_cli.specs.Answers.{script_of, asked_by, has_choice, is_open}
 use Rattle.raire_cli.specs.Contests.{HaveNodes}
 use Rattle.call_laws.proofs.ContestsOnce.{contests_once}
 use Rattle.call_laws.proofs.SameWorkers.{come_the_same, own_workers, spent_the_same}
-use Rattle.raire_cli.proofs.EachCommand.{agrees_by, agrees_exactly}
+use Rattle.raire_cli.proofs.EachCommand.{agrees_exactly, agrees_in_full}
 
 -- what a script may come to, over files that hold the same
 moved : (files others : List File) → HoldTheSame files others → (script : Script) (due : Outcome) → May (AsHeld others) script due →
@@ -37,20 +37,27 @@ unspent_same d e first second (inr (budgeted, other, inl four)) = absurd (first 
 unspent_same d e first second (inr (budgeted, other, inr four)) = absurd (second four)
 
 module _ (words : List (List ℕ)) (files others : List File) (same : HoldTheSame files others) (d e : Outcome) (first : MayBeSpent words → d.status ≢ 4)
-    (second : MayBeSpent words → e.status ≢ 4) (suffice : (asks : Asks Contests words) → HaveNodes asks.task files) where
+    (second : MayBeSpent words → e.status ≢ 4) (suffice : (asks : Asks Contests words) → HaveNodes asks.task files) (none : MayChoose words → ⊥) where
+  -- the command has no choice
+  no_choice : (command : Command) → command_of words ≡ Some command → has_choice command ≡ false
+  no_choice command is = by (has_choice command) refl where
+    by : (b : Bool) → has_choice command ≡ b → b ≡ false
+    by false e = refl
+    by true e = absurd (none (record { command = command; asked_for = is; has_choice = e }))
+
   one_open : (command : Command) → command_of words ≡ Some command → is_open command ≡ true → May (AsHeld files) (script_of command) d →
       May (AsHeld files) (script_of command) e → d ≡ e
   one_open (Contests task) is searched may_d may_e = contests_once files task (suffice (record { task = task; asked = is })) d e may_d may_e
   one_open command is searched may_d may_e =
       let asks : MayBeSpent words = record { command = command; asked_for = is; is_open = searched } in
       unspent_same d e (first asks) (second asks) (determined SameButBudget (λ o. inl refl) files (script_of command) d e
-      (agrees_by (Some command) refl) may_d may_e)
+      (agrees_in_full command refl (no_choice command is)) may_d may_e)
 
   one_command : (command : Command) → command_of words ≡ Some command → May (AsHeld files) (script_of command) d → May (AsHeld files) (script_of command) e →
       d ≡ e
   one_command command is may_d may_e = by (is_open command) refl where
     by : (b : Bool) → is_open command ≡ b → d ≡ e
-    by false closed = determined Same (λ o. refl) files (script_of command) d e (agrees_exactly command closed) may_d may_e
+    by false closed = determined Same (λ o. refl) files (script_of command) d e (agrees_exactly command closed (no_choice command is)) may_d may_e
     by true searched = one_open command is searched may_d may_e
 
   pub one_end : (command : Option Command) → command_of words ≡ command → MayCome (AsHeld files) (asked_by command) d →
@@ -70,7 +77,7 @@ workers_same_answer words others files more first second (workers, other) same s
     settled.unspent (spent_the_same workers words others (command_of words) refl other spent) in
     let suffice : (asks : Asks Contests others) → HaveNodes asks.task files = λ asks bytes list held said.
     settled'.suffice asks bytes list (sym (same asks.task.ballots) ∙ held) said in
-    let is : d ≡ e = one_end others files more same d e unspent settled'.unspent suffice (command_of others) refl its may' in
+    let is : d ≡ e = one_end others files more same d e unspent settled'.unspent suffice settled'.no_choice (command_of others) refl its may' in
     record {
       status = ap (λ (o : Outcome). o.status) is;
       to_out = out;

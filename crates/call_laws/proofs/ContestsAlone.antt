@@ -1,4 +1,4 @@
--- A contest among others tells what it tells by itself.
+-- The block of a contest among others is the one that it has by itself.
 use Rattle.std.proofs.Common.{◌≡◌, ◌∙◌, ◌&&◌, ◌++◌, ◌∷◌, [], ℕ, zero, suc, Bool, true, false, cond, List, All, Option, Some, None, Result, Ok, Err, append-nil, refl, sym, ap, subst}
 use Rattle.std.specs.List.{slice_get}
 use Rattle.std.proofs.lemmas.List.Elements.{All-head}

@@ -1,4 +1,4 @@
--- Of all sequences of draws, the audits of all contests sign a contest off on few where its cards may elect another candidate.
+-- If its cards may elect another candidate, audits of all contests sign a contest off on few of all sequences of draws.
 use Rattle.std.proofs.Common.{◌≡◌, ◌≢◌, ◌∙◌, ℕ, zero, suc, ◌<◌, ◌≤◌, true, List, [], ◌∷◌, length, map, Option, None, Some, Result, Ok, Err, All, AllPairs, sym, ap, subst, arith}
 use Rattle.std.specs.List.{slice_get}
 use Rattle.std.proofs.lemmas.List.{length-map}
@@ -64,7 +64,7 @@ read_by_id bytes list place ballots is at =
       by (Ok contests) each = one contests list place each at
 
 module _ (announced : AnnouncedContest) (actual : List (List ℕ)) (most : ℕ) where
-  -- the sequence is one of so many draws, and is counted
+  -- the sequence has this number of draws, and is counted
   abbrev Counted : Batches → ℕ → ℕ → Content → List ℕ → Type 0
   Counted batches limit gamma file sequence =
       IsSequence (length (linked_of batches announced.ballots)) most sequence

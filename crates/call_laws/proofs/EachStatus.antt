@@ -252,7 +252,7 @@ unfolding strip_bom records_from next_record
 three_read = refl
 
 abbrev empty : Content
-empty = record { contest = three.contest; candidates = three.candidates; records = 3; winner = 0; margin = 1; order = 2 ∷ 0 ∷ 1 ∷ []; claims = []; plan = None }
+empty = record { contest = three.contest; candidates = three.candidates; records = 3; winner = 0; margin = 1; order = Some (2 ∷ 0 ∷ 1 ∷ []); claims = []; plan = None }
 
 abbrev empty_bytes : List ℕ
 empty_bytes = codes "{\"assertions\":[],\"candidates\":[\"a\",\"b\",\"c\"],\"contest\":\"1\",\"margin\":1,\"order\":[\"c\",\"a\",\"b\"],\"records\":3,\"version\":1,\"winner\":\"a\"}\n"

@@ -19,5 +19,5 @@ ends_with words files due defined unspent = record {
   alone = λ call settled.
       let (out, err, may, took_out, took_err) = settled.answer.quiet settled.quiet settled.memory in
       let ended : Outcome = record { status = call.status; out = out; err = err } in
-      ap (λ (o : Outcome). o.status) (one_end words files files (λ name. refl) ended due settled.unspent unspent settled.suffice (command_of words) refl may defined);
+      ap (λ (o : Outcome). o.status) (one_end words files files (λ name. refl) ended due settled.unspent unspent settled.suffice settled.no_choice (command_of words) refl may defined);
 }

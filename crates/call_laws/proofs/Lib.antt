@@ -4,6 +4,7 @@ mod Nodes
 mod MostSets
 mod SignedOff
 mod PollsLimit
+mod EachPollsLimit
 mod PluralsLimit
 mod ContestsOnce
 mod ContestsAlone
@@ -12,7 +13,9 @@ mod ContestsSignedOff
 mod Agreement
 mod Ended
 mod PrintedFiles
+mod FewestFiles
 mod TrimmedFiles
+mod AdoptedFiles
 mod Unconfirmed
 mod EachStatus
 mod ReadFaults

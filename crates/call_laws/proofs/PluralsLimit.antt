@@ -1,4 +1,4 @@
--- Where an audit of a plurality contest signs its session off, the risk limit counts the session; and those are few.
+-- If an audit of a plurality contest signs its session off, the risk limit counts the session; and those sessions are few.
 use Rattle.std.proofs.Common.{◌≡◌, ◌≢◌, ℕ, ◌<◌, ◌≤◌, List, [], ◌∷◌, length, Option, Some, Ok, All, AllPairs, IsTrue, sym, ap, subst, ◌∙◌, arith}
 use Rattle.std.proofs.lemmas.List.{length-map}
 use Rattle.std.proofs.lemmas.List.Elements.{All-head, All-weaker}
@@ -53,7 +53,7 @@ published contest bytes counted say = record {
 }
 
 module _ (announced : AnnouncedPlurality) (actual : List (List ℕ)) (most : ℕ) where
-  -- the sequence is one of so many draws, and is counted
+  -- the sequence has this number of draws, and is counted
   abbrev IsCounted : Counted → ℕ → ℕ → List ℕ → Type 0
   IsCounted counted limit gamma sequence =
       IsSequence (length (linked_of counted.batches counted.ballots)) most sequence

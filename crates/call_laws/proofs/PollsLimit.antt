@@ -76,7 +76,7 @@ module _ (announced : AnnouncedPoll) (actual : List (List ℕ)) (most : ℕ) whe
   abbrev all_cards : ℕ
   all_cards = length (cards_of announced.batches)
 
-  -- the sequence is one of so many draws, and is counted
+  -- the sequence has this number of draws, and is counted
   abbrev Counted : Batches → Content → ℕ → ℕ → List ℕ → Type 0
   Counted batches file limit gamma sequence =
       IsSequence (length (cards_of batches)) most sequence × MayBeConfirmed limit gamma (values_of file) actual sequence

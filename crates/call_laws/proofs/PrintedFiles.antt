@@ -42,16 +42,16 @@ use Rattle.session_commands.specs.Accepted.{is_accepted}
 use Rattle.session_commands.specs.Open as opened
 use Rattle.session_commands.proofs.Acceptance.{decided}
 use Rattle.raire_cli.specs.Asks.{Asks}
-use Rattle.call_laws.specs.Agreement.{Call}
+use Rattle.call_laws.specs.Agreement.{Call, IsSettled}
 use Rattle.raire_cli.specs.Answers.{asked, asked_by}
 use Rattle.raire_cli.specs.Confirmation.{AsksFor}
-use Rattle.call_laws.specs.PrintedFiles.{HasPrinted, PrintedIsAccepted, PrintedIsOpened}
+use Rattle.call_laws.specs.PrintedFiles.{ChecksTheSame, HasPrinted, HoldsCards, HoldsPrinted, OpensTheSame, PrintedIsAccepted, PrintedIsOpened}
 use Rattle.call_laws.proofs.Agreement.{not_spent}
 use Rattle.call_laws.proofs.Ended.{ends_with}
 use Rattle.raire_cli.proofs.Headline.{searching}
 use Rattle.raire_cli.proofs.Said.{going, may_say, read_whole, said}
 
--- a sink that tells what it takes took one text
+-- a sink that reports what it takes took one text
 pub one_text : (sink : Writing) (before text other : List ℕ) → sink.before ≡ Some before → sink.after ≡ Some (before ++ text) → Took sink other → text ≡ other
 one_text sink before text other told_before told_after took =
     append_cancel_left before text other (subst (λ s. Appends s (Some (before ++ text)) other) told_before
@@ -106,7 +106,7 @@ abbrev file_of : {budget : Budget} {least : ℕ} {ballots : BallotFile} {text : 
 file_of plan has = printed plan has.file
 
 -- the plan that is printed can be one, and has the clean draws of the claims
-sound_by : (plan : Option PlanTerms) (ballots : BallotFile) (file : Content) → file.records ≡ length ballots.rankings → IfSome plan AreWithinLimits →
+pub sound_by : (plan : Option PlanTerms) (ballots : BallotFile) (file : Content) → file.records ≡ length ballots.rankings → IfSome plan AreWithinLimits →
     has_cards plan ballots ≡ true → IfSome (option_map (plan_by file) plan) (IsSoundPlan file.records (length file.claims))
 sound_by None ballots file same limits cards = tt
 sound_by (Some terms) ballots file same limits cards =
@@ -120,7 +120,7 @@ sound_by (Some terms) ballots file same limits cards =
       most_limit = limits.limit.1;
     })
 
-clean_by : (plan : Option PlanTerms) (file : Content) → IfSome (option_map (plan_by file) plan) (IsPlanOf file.claims)
+pub clean_by : (plan : Option PlanTerms) (file : Content) → IfSome (option_map (plan_by file) plan) (IsPlanOf file.claims)
 clean_by None file = tt
 clean_by (Some terms) file = plan_clean terms.cards terms.gamma terms.limit file.claims
 
@@ -142,31 +142,69 @@ module _ (budget : Budget) (least : ℕ) (plan : Option PlanTerms) (limits : IfS
     printed_accepted : IsAnswer budget ballots (file_of plan has) (Ok Accepted)
     printed_accepted = let (is, reads, accepted) = taken in accepted
 
+-- ---- what was printed, by any search
+
+-- the ballots that it read, by this name and of this contest, and the file that it printed of them, which reads back and is accepted
+pub record WasPrinted (files : List File) (own : List ℕ) (contest : Option Id) (budget : Budget) (text : List ℕ) : Type 0 where
+  pub bytes : List ℕ
+  pub held : held_bytes own files ≡ Some bytes
+  pub is_short : length bytes ≤ limit
+  pub ballots : BallotFile
+  pub read : ballots_of bytes contest ≡ Ok ballots
+  pub file : Content
+  pub reads : assertion_file_of text ≡ Ok file
+  pub accepted : IsAnswer budget ballots file (Ok Accepted)
+
+module _ {words : List (List ℕ)} (files : List File) (search : Asks Search words) (call : Call) (text : List ℕ) (has : HasPrinted words files call text) where
+  abbrev was_printed : WasPrinted files search.task.ballots search.task.contest search.task.budget text
+  was_printed =
+      let found = found files search call text has in
+      let limits = (are_checked words (Search search.task) search.asked).plan in
+      record {
+        bytes = found.bytes;
+        held = found.held;
+        is_short = found.is_short;
+        ballots = found.ballots;
+        read = found.read;
+        file = file_of search.task.plan found.has;
+        reads = printed_reads search.task.budget search.task.floor search.task.plan limits found.bytes search.task.contest found.ballots text found.read
+            found.cards found.has;
+        accepted = printed_accepted search.task.budget search.task.floor search.task.plan limits found.bytes search.task.contest found.ballots text found.read
+            found.cards found.has;
+      }
+
+  -- the search asked for these ballots
+  asks_for : AsksFor words files was_printed.ballots (found files search call text has).has.is.winner
+  asks_for =
+      let found = found files search call text has in
+      record { search = search; bytes = found.bytes; held = found.held; accepted = found.read; cards = found.cards; won = found.has.is.won }
+
 -- ---- a check
+
+pub accepted_later : (others : List (List ℕ)) (own : List ℕ) (contest : Option Id) (budget : Budget) (check : ChecksTheSame contest budget others)
+    (files more : List File) (second : Call) (text : List ℕ) → WasPrinted files own contest budget text →
+    HoldsPrinted own files more text check.asks.task.ballots check.asks.task.assertions → IsSettled others more second → second.status ≡ 0
+accepted_later others own contest budget check files more second text printed holds settled =
+    let task = check.asks.task in
+    let file = printed.file in
+    let yes : Verdict = Answered Done (yes_text file) in
+    let checks : Checks task.budget printed.ballots file yes =
+    subst (λ budget. Checks budget printed.ballots file yes) (sym check.same_budget)
+    ((accepted_is_yes budget printed.ballots file yes printed.accepted).1 refl) in
+    let with_ballots : List ℕ → BallotFile → Script = λ bytes ballots. after_ballots task.assertions task.budget ballots in
+    let after : May (AsHeld more) (after_ballots task.assertions task.budget printed.ballots) (outcome yes) =
+    may_say more task.assertions (refused_assertions task.assertions) assertion_file_of (λ bytes file. Ends (Checks task.budget printed.ballots file)) text
+    holds.printed holds.is_short file printed.reads (outcome yes) (yes, checks, refl) in
+    let comes : MayCome (AsHeld more) (asked_by (Some (Check task))) (outcome yes) =
+    may_say more task.ballots (refused_ballots task.ballots) (λ bytes. ballots_of bytes task.contest) with_ballots printed.bytes
+    (holds.same_ballots ∙ printed.held) printed.is_short printed.ballots (ap (ballots_of printed.bytes) check.same_contest ∙ printed.read) (outcome yes) after in
+    (ends_with others more (outcome yes) (subst (λ command. MayCome (AsHeld more) (asked_by command) (outcome yes)) (sym check.asks.asked) comes)
+    (λ asks. absurd (not_spent others (Check task) check.asks.asked refl asks))).alone second settled
 
 pub printed_is_accepted : PrintedIsAccepted
 printed_is_accepted words others search check files more first second text printed holds settled =
-    let task = check.asks.task in
-    let found = found files search first text printed in
-    let file = file_of search.task.plan found.has in
-    let limits = (are_checked words (Search search.task) search.asked).plan in
-    let reads = printed_reads search.task.budget search.task.floor search.task.plan limits found.bytes search.task.contest found.ballots text found.read
-    found.cards found.has in
-    let known = printed_accepted search.task.budget search.task.floor search.task.plan limits found.bytes search.task.contest found.ballots text found.read
-    found.cards found.has in
-    let yes : Verdict = Answered Done (yes_text file) in
-    let checks : Checks task.budget found.ballots file yes =
-    subst (λ budget. Checks budget found.ballots file yes) (sym check.same_budget)
-    ((accepted_is_yes search.task.budget found.ballots file yes known).1 refl) in
-    let with_ballots : List ℕ → BallotFile → Script = λ bytes ballots. after_ballots task.assertions task.budget ballots in
-    let after : May (AsHeld more) (after_ballots task.assertions task.budget found.ballots) (outcome yes) =
-    may_say more task.assertions (refused_assertions task.assertions) assertion_file_of (λ bytes file. Ends (Checks task.budget found.ballots file)) text
-    holds.printed holds.is_short file reads (outcome yes) (yes, checks, refl) in
-    let comes : MayCome (AsHeld more) (asked_by (Some (Check task))) (outcome yes) =
-    may_say more task.ballots (refused_ballots task.ballots) (λ bytes. ballots_of bytes task.contest) with_ballots found.bytes
-    (holds.same_ballots ∙ found.held) found.is_short found.ballots (ap (ballots_of found.bytes) check.same_contest ∙ found.read) (outcome yes) after in
-    (ends_with others more (outcome yes) (subst (λ command. MayCome (AsHeld more) (asked_by command) (outcome yes)) (sym check.asks.asked) comes)
-    (λ asks. absurd (not_spent others (Check task) check.asks.asked refl asks))).alone second settled
+    accepted_later others search.task.ballots search.task.contest search.task.budget check files more second text
+    (was_printed files search first text printed) holds settled
 
 -- ---- a session
 
@@ -179,43 +217,45 @@ cards-ok name ballots manifest bytes batches is placed =
     (λ batches. unless (option_map (no_card name) (first_without_card batches ballots)) (Ok batches))) is
     ∙ ap (λ without. unless (option_map (no_card name) without) (Ok batches)) placed
 
-pub printed_is_opened : PrintedIsOpened
-printed_is_opened words others search opening files more first second text printed holds cards settled =
+pub opened_later : (words others : List (List ℕ)) (own : List ℕ) (contest : Option Id) (budget : Budget) (opening : OpensTheSame contest budget others)
+    (files more : List File) (second : Call) (text : List ℕ) (printed : WasPrinted files own contest budget text) →
+    HoldsPrinted own files more text opening.asks.task.ballots opening.asks.task.assertions
+    → (cards : HoldsCards words files more opening.asks.task.manifest) → first_without_card cards.batches printed.ballots ≡ None →
+    IsSettled others more second → second.status ≡ 0
+opened_later words others own contest budget opening files more second text printed holds cards placed settled =
     let task = opening.asks.task in
-    let found = found files search first text printed in
-    let ballots = found.ballots in
-    let file = file_of search.task.plan found.has in
-    let limits = (are_checked words (Search search.task) search.asked).plan in
-    let reads = printed_reads search.task.budget search.task.floor search.task.plan limits found.bytes search.task.contest ballots text found.read
-    found.cards found.has in
-    let known = printed_accepted search.task.budget search.task.floor search.task.plan limits found.bytes search.task.contest ballots text found.read
-    found.cards found.has in
+    let ballots = printed.ballots in
+    let file = printed.file in
     let held = AsHeld more in
-    let digests : Digests = opened.all_digests (record { ballots = sha256 found.bytes; manifest = sha256 cards.bytes }) text in
+    let digests : Digests = opened.all_digests (record { ballots = sha256 printed.bytes; manifest = sha256 cards.bytes }) text in
     let session : Verdict = opened.opened task cards.batches file digests in
     let due = outcome session in
-    let asks : AsksFor words files ballots found.has.is.winner =
-    record { search = search; bytes = found.bytes; held = found.held; accepted = found.read; cards = found.cards; won = found.has.is.won } in
-    let placed = cards.placed ballots found.has.is.winner asks in
     let accepted : is_accepted task.budget ballots file ≡ true =
-    ap (λ budget. is_accepted budget ballots file) opening.same_budget ∙ (decided search.task.budget ballots file).1 known in
+    ap (λ budget. is_accepted budget ballots file) opening.same_budget ∙ (decided budget ballots file).1 printed.accepted in
     let opens : opened.Opens task ballots cards.batches file digests session =
     subst (λ b. MatchBool b (session ≡ session) (Checks task.budget ballots file session)) (sym accepted) refl in
-    let with_file : List ℕ → Content → Script = λ bytes file. Ends (opened.Opens task ballots cards.batches file (opened.all_digests (record { ballots = sha256 found.bytes; manifest = sha256 cards.bytes }) bytes)) in
+    let with_file : List ℕ → Content → Script = λ bytes file. Ends (opened.Opens task ballots cards.batches file (opened.all_digests (record { ballots = sha256 printed.bytes; manifest = sha256 cards.bytes }) bytes)) in
     let from_assertions : May held (opened.after_manifest task ballots cards.batches
-    (record { ballots = sha256 found.bytes; manifest = sha256 cards.bytes })) due =
-    may_say more task.assertions (refused_assertions task.assertions) assertion_file_of with_file text holds.printed holds.is_short file reads due
+    (record { ballots = sha256 printed.bytes; manifest = sha256 cards.bytes })) due =
+    may_say more task.assertions (refused_assertions task.assertions) assertion_file_of with_file text holds.printed holds.is_short file printed.reads due
     (session, opens, refl) in
-    let from_manifest : May held (opened.after_ballots task ballots (sha256 found.bytes)) due = inr (
+    let from_manifest : May held (opened.after_ballots task ballots (sha256 printed.bytes)) due = inr (
       cards.bytes,
       read_whole task.manifest more cards.bytes cards.held cards.is_short,
       going held (cards_for task.ballots ballots task.manifest cards.bytes) cards.batches
-          (λ batches. opened.after_manifest task ballots batches (record { ballots = sha256 found.bytes; manifest = sha256 cards.bytes })) due
+          (λ batches. opened.after_manifest task ballots batches (record { ballots = sha256 printed.bytes; manifest = sha256 cards.bytes })) due
           (cards-ok task.ballots ballots task.manifest cards.bytes cards.batches cards.accepted placed) from_assertions,
     ) in
     let with_ballots : List ℕ → BallotFile → Script = λ bytes ballots. opened.after_ballots task ballots (sha256 bytes) in
     let comes : MayCome held (asked_by (Some (Open task))) due =
-    may_say more task.ballots (refused_ballots task.ballots) (λ bytes. ballots_of bytes task.contest) with_ballots found.bytes
-    (holds.same_ballots ∙ found.held) found.is_short ballots (ap (ballots_of found.bytes) opening.same_contest ∙ found.read) due from_manifest in
+    may_say more task.ballots (refused_ballots task.ballots) (λ bytes. ballots_of bytes task.contest) with_ballots printed.bytes
+    (holds.same_ballots ∙ printed.held) printed.is_short ballots (ap (ballots_of printed.bytes) opening.same_contest ∙ printed.read) due from_manifest in
     (ends_with others more due (subst (λ command. MayCome held (asked_by command) due) (sym opening.asks.asked) comes)
     (λ asks. absurd (not_spent others (Open task) opening.asks.asked refl asks))).alone second settled
+
+pub printed_is_opened : PrintedIsOpened
+printed_is_opened words others search opening files more first second text printed holds cards settled =
+    let was = was_printed files search first text printed in
+    let winner = (found files search first text printed).has.is.winner in
+    opened_later words others search.task.ballots search.task.contest search.task.budget opening files more second text was holds cards
+    (cards.placed was.ballots winner (inl (asks_for files search first text printed))) settled

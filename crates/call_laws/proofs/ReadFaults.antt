@@ -1,4 +1,4 @@
--- Which file is named where the desk fails.
+-- Which file is named if the desk fails.
 use Rattle.std.proofs.Common.{◌≡◌, inl, inr, ℕ, zero, suc, List, Option, Some, Result, Ok, Err, sym, ap, subst, ◌∙◌, arith}
 use Rattle.desk.specs.Desk.{File}
 use Rattle.desk.specs.declared.served.Served.{Served}
@@ -19,7 +19,7 @@ two_begun : (files : ℕ) (before after : Served) → before.begins ≡ 0 → af
 two_begun zero before after none two begun = absurd (omega (arith, none, two, begun))
 two_begun (suc files) before after none two begun = omega (arith, none, two, begun)
 
--- a file is reached after what is judged, only where that says something
+-- a file is reached after what is judged, only if that says something
 judged_reaches : {A : Type 0} (readings : Readings) (judged : Result A Verdict) (next : A → Script) (n : ℕ) (name : List ℕ) →
     ReachesAs readings (go_on judged next) n name → (value : A) × ReachesAs readings (next value) n name
 judged_reaches readings (Ok value) next n name reaches = (value, reaches)

@@ -18,7 +18,7 @@ use Rattle.command.specs.declared.contests.ContestsTask.{ContestsTask}
 use Rattle.command.specs.declared.trial.TrialTask.{TrialTask}
 use Rattle.command_line.specs.Line.{command_of}
 use Rattle.command_line.specs.declared.commands.Command.{Command}
-use Rattle.command_line.specs.declared.commands.Command.TheVariants.{Search, Trial, Contests}
+use Rattle.command_line.specs.declared.commands.Command.TheVariants.{Search, SearchFewest, Trial, Contests}
 use Rattle.input_files.specs.Judged.{told, go_on}
 use Rattle.input_files.specs.Refusals.{refused_ballots, refused_manifest, refused_seen}
 use Rattle.search_commands.specs.Trial.{Tries}
@@ -130,6 +130,7 @@ module _ (task : ContestsTask) (workers : ℕ) where
 module _ (workers : ℕ) where
   same_open : (command : Command) → is_open (with_workers workers command) ≡ is_open command
   same_open (Search task) = refl
+  same_open (SearchFewest task) = refl
   same_open (Trial task) = refl
   same_open (Contests task) = refl
   same_open _ = refl
@@ -137,6 +138,7 @@ module _ (workers : ℕ) where
   module _ (readings : Readings) (due : Outcome) where
     may_the_same : (command : Command) → May readings (script_of command) due → May readings (script_of (with_workers workers command)) due
     may_the_same (Search task) may = may
+    may_the_same (SearchFewest task) may = may
     may_the_same (Trial task) (v, tries, is) = (v, tries_the_same task workers v tries, is)
     may_the_same (Contests task) may = contests_the_same task workers readings due may
     may_the_same _ may = may
@@ -158,6 +160,7 @@ module _ (workers : ℕ) where
 pub own_workers : (command : Option Command) → (workers : ℕ) × (command ≡ option_map (with_workers workers) command)
 own_workers None = (0, refl)
 own_workers (Some (Search task)) = (task.workers, refl)
+own_workers (Some (SearchFewest task)) = (task.workers, refl)
 own_workers (Some (Trial task)) = (task.workers, refl)
 own_workers (Some (Contests task)) = (task.workers, refl)
 own_workers (Some command) = (0, refl)

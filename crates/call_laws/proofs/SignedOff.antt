@@ -39,7 +39,7 @@ said-once contest bytes basis other says tells =
     let file : basis.file ≡ other.file = only says.assertions tells.assertions in
     λ i. record { ballots = ballots i; batches = batches i; file = file i }
 
--- what bytes say is sound, and so it fits together where it belongs together
+-- what bytes say is sound, and so its parts fit together
 fit : (contest : Option Id) (bytes : FileBytes) (basis : Basis) → Say contest bytes basis → BelongTogether basis →
     FitTogether basis.batches basis.ballots basis.file
 fit contest bytes basis say together = record {
@@ -51,7 +51,7 @@ fit contest bytes basis say together = record {
 }
 
 module _ (announced : Announced) (actual : List (List ℕ)) (most : ℕ) where
-  -- the sequence is one of so many draws, and is counted
+  -- the sequence has this number of draws, and is counted
   abbrev Counted : Basis → ℕ → ℕ → List ℕ → Type 0
   Counted basis limit gamma sequence =
       IsSequence (length (linked_of basis.batches basis.ballots)) most sequence

@@ -82,7 +82,7 @@ trimmed_is_accepted words others trim check files more first second text printed
 
 -- ---- a trim
 
--- of a file that stays as it is the same text is told, or a trial that is spent
+-- a file that stays as it is has the same text, or a trial is spent
 module _ (budget : Budget) (ballots : BallotFile) (file left : Content) (accepted : IsAnswer budget ballots left (Ok Accepted)) (is : trimmed budget file ≡ Ok left) where
   abbrev IsSame : Verdict → Type 0
   IsSame v = ((outcome v).status ≡ 4) ⊎ (v ≡ Answered Done (assertion_file_text left))

@@ -82,7 +82,7 @@ abbrev claim : Claim
 claim = record { assertion = Neb 0 1; margin = 1 }
 
 abbrev file : FileContent
-file = record { contest = codes "7"; candidates = codes "1" ∷ codes "2" ∷ []; records = 1; winner = 0; margin = 1; order = 0 ∷ 1 ∷ []; claims = claim ∷ []; plan = None }
+file = record { contest = codes "7"; candidates = codes "1" ∷ codes "2" ∷ []; records = 1; winner = 0; margin = 1; order = Some (0 ∷ 1 ∷ []); claims = claim ∷ []; plan = None }
 
 file_text : assertion_file_text file ≡ assertions_bytes
 unfolding file_value digits serde_json_on_literals

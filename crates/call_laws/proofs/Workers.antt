@@ -3,7 +3,7 @@ use Rattle.std.proofs.Common.{◌≡◌, ◌∙◌, inl, inr, ℕ, List, Option,
 use Rattle.std.specs.Prelude.{⊤}
 use Rattle.command.specs.declared.trial.TrialTask.{TrialTask}
 use Rattle.command_line.specs.declared.commands.Command.{Command}
-use Rattle.command_line.specs.declared.commands.Command.TheVariants.{Search, Trial}
+use Rattle.command_line.specs.declared.commands.Command.TheVariants.{Search, SearchFewest, Trial}
 use Rattle.desk.specs.Desk.{File}
 use Rattle.ballot_reader.specs.Ballots.{BallotFile}
 use Rattle.ballot_reader.specs.Grammar.{ballots_of}
@@ -13,13 +13,13 @@ use Rattle.command.specs.declared.search.SearchTask.{SearchTask}
 use Rattle.input_files.specs.Judged.{told, go_on}
 use Rattle.input_files.specs.Refusals.{refused_ballots}
 use Rattle.cli_base.specs.Outcome.{Outcome, Verdict, outcome}
-use Rattle.cli_base.specs.Script.{Bytes, Ends, AsHeld, ByDesk, IsDue, May, MayCome, Same, SameButBudget, stop_of}
+use Rattle.cli_base.specs.Script.{Bytes, Ends, AsHeld, ByDesk, IsDue, May, MayCome, Same, SameButBudget, SameStatus, stop_of}
 use Rattle.cli_base.proofs.Scripts.{determined, some_is}
 use Rattle.search_commands.specs.Search.{Searches, script}
 use Rattle.raire_cli.specs.Answers.{asked_by, script_of}
-use Rattle.call_laws.specs.Laws.{BudgetsComeToTheSame, SetsComeToTheSame, TrialsBySetsComeToTheSame, TrialsComeToTheSame, WorkersAskTheSame, WorkersComeToTheSame}
+use Rattle.call_laws.specs.Laws.{BudgetsComeToTheSame, FewestComeToTheSameStatus, SetsComeToTheSame, TrialsBySetsComeToTheSame, TrialsComeToTheSame, WorkersAskTheSame, WorkersComeToTheSame}
 use Rattle.call_laws.proofs.SameWorkers.{tries_the_same}
-use Rattle.raire_cli.proofs.EachCommand.{agrees_by, agrees_exactly}
+use Rattle.raire_cli.proofs.EachCommand.{agrees_exactly, agrees_in_full, agrees_in_status}
 use Rattle.raire_cli.proofs.EitherBudget.{searched-either}
 use Rattle.raire_cli.proofs.Said.{none_is_some}
 
@@ -31,14 +31,21 @@ ask_the_same task some more words others one other held due may =
 pub come_to_the_same : WorkersComeToTheSame
 come_to_the_same task some more words others one other files d e may_d may_e =
     let search = Search task in
-    determined SameButBudget (λ d. inl refl) files (script_of search) d e (agrees_by (Some search) refl)
+    determined SameButBudget (λ d. inl refl) files (script_of search) d e (agrees_in_full search refl refl)
     (subst (λ command. MayCome (AsHeld files) (asked_by command) d) one may_d)
     (subst (λ command. MayCome (AsHeld files) (asked_by command) e) other may_e)
 
 pub sets_come_to_the_same : SetsComeToTheSame
 sets_come_to_the_same task sets some more words others one other files d e may_d may_e =
     let search = Search (record task { budget = Sets sets; workers = some }) in
-    determined Same (λ d. refl) files (script_of search) d e (agrees_exactly search refl)
+    determined Same (λ d. refl) files (script_of search) d e (agrees_exactly search refl refl)
+    (subst (λ command. MayCome (AsHeld files) (asked_by command) d) one may_d)
+    (subst (λ command. MayCome (AsHeld files) (asked_by command) e) other may_e)
+
+pub fewest_come_to_the_same_status : FewestComeToTheSameStatus
+fewest_come_to_the_same_status task some more words others one other files d e may_d may_e =
+    let search = SearchFewest (record task { workers = some }) in
+    determined SameStatus (λ d. refl) files (script_of search) d e (agrees_in_status search refl)
     (subst (λ command. MayCome (AsHeld files) (asked_by command) d) one may_d)
     (subst (λ command. MayCome (AsHeld files) (asked_by command) e) other may_e)
 
@@ -46,7 +53,7 @@ pub trials_come_to_the_same : TrialsComeToTheSame
 trials_come_to_the_same task some more words others one other files d e may_d may_e =
     let trial = Trial (record task { workers = more }) in
     let (v, tries, is) = subst (λ command. MayCome (AsHeld files) (asked_by command) d) one may_d in
-    determined SameButBudget (λ d. inl refl) files (script_of trial) d e (agrees_by (Some trial) refl)
+    determined SameButBudget (λ d. inl refl) files (script_of trial) d e (agrees_in_full trial refl refl)
     (v, tries_the_same (record task { workers = some }) more v tries, is)
     (subst (λ command. MayCome (AsHeld files) (asked_by command) e) other may_e)
 
@@ -55,7 +62,7 @@ trials_by_sets_come_to_the_same task sets some more words others one other files
     let own : TrialTask = record task { budget = Sets sets } in
     let trial = Trial (record own { workers = more }) in
     let (v, tries, is) = subst (λ command. MayCome (AsHeld files) (asked_by command) d) one may_d in
-    determined Same (λ d. refl) files (script_of trial) d e (agrees_exactly trial refl)
+    determined Same (λ d. refl) files (script_of trial) d e (agrees_exactly trial refl refl)
     (v, tries_the_same (record own { workers = some }) more v tries, is)
     (subst (λ command. MayCome (AsHeld files) (asked_by command) e) other may_e)
 

@@ -6,9 +6,9 @@ use Rattle.cli_base.specs.Ends.{Writing, Took}
 use Rattle.cli_base.specs.Statuses.{IsAnswered, IsQuiet}
 use Rattle.command_line.specs.Line.{command_of}
 use Rattle.command_line.specs.declared.commands.Command.{Command}
-use Rattle.command_line.specs.declared.commands.Command.TheVariants.{Search, Trial, Contests}
+use Rattle.command_line.specs.declared.commands.Command.TheVariants.{Search, SearchFewest, Trial, Contests}
 use Rattle.raire_cli.specs.Asks.{Asks}
-use Rattle.raire_cli.specs.Answers.{asked, is_open}
+use Rattle.raire_cli.specs.Answers.{asked, has_choice, is_open}
 use Rattle.raire_cli.specs.Contests.{HaveNodes}
 
 -- what is seen of a call of `run`: the desk's count of faults before and after it, its status, and what its sinks took
@@ -29,13 +29,21 @@ pub record MayBeSpent (words : List (List ℕ)) : Type 0 where
   pub asked_for : command_of words ≡ Some command
   pub is_open : is_open command ≡ true
 
+-- the words ask for a command that has a choice: a search for the fewest NENs
+pub record MayChoose (words : List (List ℕ)) : Type 0 where
+  pub command : Command
+  pub asked_for : command_of words ≡ Some command
+  pub has_choice : has_choice command ≡ true
+
 -- The call was of these words, over a desk that holds these files. Nothing failed in it, memory was found, and it is no search, no
--- tabulation and no trial whose budget of nodes was spent, and no audit of a contest whose budget might be.
+-- tabulation and no trial whose budget of nodes was spent, and no audit of a contest whose budget might be; nor is it a search for the
+-- fewest NENs, of which there may be several.
 pub record IsSettled (words : List (List ℕ)) (files : List File) (call : Call) : Type 0 where
   pub answer : IsAnswered (asked words) (Some files) (Failed call) call.status call.out call.err
   pub quiet : IsQuiet (Failed call) call.out call.err
   pub memory : call.status ≢ 9
   pub unspent : MayBeSpent words → call.status ≢ 4
+  pub no_choice : MayChoose words → ⊥
   -- the nodes of an audit of all contests are as many as may be needed in each
   pub suffice : (asks : Asks Contests words) → HaveNodes asks.task files
 
@@ -58,6 +66,7 @@ pub record AreTheSame (first second : Call) : Type 0 where
 -- the command with this number of workers, if it has one
 abbrev pub with_workers : ℕ → Command → Command
 with_workers workers (Search task) = Search (record task { workers = workers })
+with_workers workers (SearchFewest task) = SearchFewest (record task { workers = workers })
 with_workers workers (Trial task) = Trial (record task { workers = workers })
 with_workers workers (Contests task) = Contests (record task { workers = workers })
 with_workers workers command = command

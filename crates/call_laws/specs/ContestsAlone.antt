@@ -21,14 +21,14 @@ pub record HaveSameTerms (task other : ContestsTask) : Type 0 where
   pub gamma : other.gamma ≡ task.gamma
   pub nodes : other.nodes ≡ task.nodes
 
--- the records of the files without those of the other contests, where `1` is the first record of the ballot file
+-- the records of the files without those of the other contests, if `1` is the first record of the ballot file
 pub record AreAlone (contest : Id) (bytes other : ContestsBytes) : Type 0 where
   pub ballots : numbered_records other.cards.ballots
       ≡ alone contest (numbered_records bytes.cards.ballots)
   pub manifest : other.cards.manifest ≡ bytes.cards.manifest
   pub seen : numbered_records other.seen ≡ records_about contest (numbered_records bytes.seen)
 
--- Where neither budget is spent, the block of a contest among others is what the same command tells of it by itself.
+-- If neither budget is spent, the block of a contest among others is what the same command prints for it by itself.
 abbrev pub BlockAlone : Type 0
 BlockAlone =
     (words others : List (List ℕ)) (files more : List File) (audit : AuditsContests words files)

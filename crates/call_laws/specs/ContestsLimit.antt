@@ -24,8 +24,7 @@ module _ {words : List (List ℕ)} {files : List File} (audit : AuditsContests w
   abbrev pub drawn : ℕ → List ℕ
   drawn = drawn_cards audit.asks.task.seed cards
 
--- It is so of each contest by itself, at any number of draws up to the most, where the cards that were drawn were read as they are for
--- this contest.
+-- It holds for each contest by itself, at any number of draws up to the most, if the drawn cards were read as they are for this contest.
 abbrev pub ContestIsCounted : Type 0
 ContestIsCounted =
     (words : List (List ℕ)) (files : List File) (audit : AuditsContests words files) (place : ℕ)

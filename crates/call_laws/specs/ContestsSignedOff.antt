@@ -45,11 +45,11 @@ pub record AnnouncedContest : Type 0 where
 
 -- ---- what is counted
 
--- The cards have these actual rankings in the contest, and no audit goes beyond so many draws.
+-- The cards have these actual rankings in the contest, and no audit goes beyond this number of draws.
 module _ (announced : AnnouncedContest) (actual : List (List ℕ)) (most : ℕ) where
   -- an audit of what was announced signs the contest off, and its seed draws this sequence
   pub record IsContestSignedOffOn (sequence : List ℕ) : Type 0 where
-    -- `run` promises so where an audit of all contests ends with status 0 or 10 (`IsAuditedByContest`)
+    -- `run` promises this if an audit of all contests ends with status 0 or 10 (`IsAuditedByContest`)
     pub words : List (List ℕ)
     pub files : List File
     pub audit : AuditsContests words files
@@ -58,7 +58,7 @@ module _ (announced : AnnouncedContest) (actual : List (List ℕ)) (most : ℕ) 
     pub counts : Vec Counts Global
     pub risks : Vec ℕ Global
     pub signed_off : slice_get audit.ends announced.place ≡ Some (Audited file counts risks true)
-    -- it stands on the files and the terms that were announced
+    -- it is about the files and terms that were announced
     pub same_files : audit.bytes.cards ≡ announced.bytes
     pub same_limit : audit.asks.task.limit ≡ announced.limit
     pub same_gamma : audit.asks.task.gamma ≡ announced.gamma
@@ -68,7 +68,7 @@ module _ (announced : AnnouncedContest) (actual : List (List ℕ)) (most : ℕ) 
     pub entries : List Entry
     pub seen : slice_get audit.inputs.seen announced.place ≡ Some entries
     pub true_entries : AreTrueEntries actual entries (drawn audit audit.asks.task.draws)
-    -- the sequence is what its seed draws, also behind its end
+    -- the sequence is what its seed draws, also after its end
     pub of_seed : sequence ≡ drawn audit most
 
 -- ---- what is promised

@@ -19,7 +19,7 @@ IsOfSome status = (words : List (List ℕ)) × (files : List File) × EndsWith s
 
 -- ---- the law
 
--- 7, 8 and 9 aren't due to words and files: a desk that fails, a sink that fails and want of memory are.
+-- 7, 8 and 9 don't come from words and files. They come from a desk that fails, a sink that fails and want of memory.
 pub record EachStatus : Type 0 where
   pub done : IsOfSome 0
   pub bad_words : IsOfSome 1

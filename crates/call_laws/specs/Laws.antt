@@ -14,9 +14,10 @@ use Rattle.ballot_reader.specs.Ballots.{BallotFile}
 use Rattle.cli_base.specs.Outcome.{Outcome}
 use Rattle.cli_base.specs.Script.{AsHeld, ByDesk, IsDue, MayCome, SameButBudget}
 use Rattle.command.specs.declared.search.SearchTask.{SearchTask}
+use Rattle.command.specs.declared.search_fewest.SearchFewestTask.{SearchFewestTask}
 use Rattle.command.specs.declared.trial.TrialTask.{TrialTask}
 use Rattle.command_line.specs.Line.{command_of}
-use Rattle.command_line.specs.declared.commands.Command.TheVariants.{Search, Trial}
+use Rattle.command_line.specs.declared.commands.Command.TheVariants.{Search, SearchFewest, Trial}
 use Rattle.budget.specs.declared.budget.Budget.{Budget}
 use Rattle.budget.specs.declared.budget.Budget.TheVariants.{Sets}
 use Rattle.budget.specs.declared.limits.TheConstants.{DEFAULT_NODES, MOST_SETS}
@@ -30,8 +31,8 @@ abbrev pub AskForWorkers : SearchTask → ℕ → List (List ℕ) → Type 0
 AskForWorkers task workers words =
     command_of words ≡ Some (Search (record task { workers = workers }))
 
--- Of two searches that differ in their workers alone, what the one may come to, the other may come to, whatever files there are, and
--- where the desk or memory fails.
+-- If two searches differ in their workers only, each may end in every way in which the other may, whatever files there are, and also if
+-- the desk or memory fails.
 abbrev pub WorkersAskTheSame : Type 0
 WorkersAskTheSame =
     (task : SearchTask) (some more : ℕ) (words others : List (List ℕ)) →
@@ -76,6 +77,15 @@ TrialsBySetsComeToTheSame =
     (files : List File) (due other : Outcome) → MayCome (AsHeld files) (asked words) due →
     MayCome (AsHeld files) (asked others) other → due ≡ other
 
+-- Two searches for the fewest NENs that differ in their workers alone come to the same status.
+abbrev pub FewestComeToTheSameStatus : Type 0
+FewestComeToTheSameStatus =
+    (task : SearchFewestTask) (some more : ℕ) (words others : List (List ℕ)) →
+    command_of words ≡ Some (SearchFewest (record task { workers = some })) →
+    command_of others ≡ Some (SearchFewest (record task { workers = more })) →
+    (files : List File) (due other : Outcome) → MayCome (AsHeld files) (asked words) due →
+    MayCome (AsHeld files) (asked others) other → due.status ≡ other.status
+
 -- Two searches of the same contest with the same floor and plan come to the same status and bytes, by nodes or by sets, but for a budget
 -- that is spent.
 abbrev pub BudgetsComeToTheSame : Type 0
@@ -100,14 +110,14 @@ MostSetsSuffice =
     (ballots : BallotFile) (winner : ℕ) → IsWon ballots winner → candidate_count ballots ≤ 20 →
     sets_of ballots winner ≤ MOST_SETS
 
--- They do where an assertion file is checked.
+-- They do if an assertion file is checked.
 abbrev pub MostSetsSufficeToCheck : Type 0
 MostSetsSufficeToCheck =
     (file : FileContent) → IsSound file → count_in file ≤ 20 →
     standing_sets (count_in file) file.winner (assertions_of file) ≤ MOST_SETS
 
--- A session that an audit signs off is one that the risk limit counts, where the cards that were drawn were read as they are; also
--- among sequences of more draws.
+-- A session that an audit signs off is one that the risk limit counts, if the drawn cards were read as they are; also among longer
+-- sequences.
 abbrev pub SignedOffIsCounted : Type 0
 SignedOffIsCounted =
     (words : List (List ℕ)) (files : List File) (next : Content) (on : GoesOn words files next)

@@ -1,6 +1,7 @@
 pub mod Laws
 pub mod SignedOff
 pub mod PollLaws
+pub mod EachPollLaws
 pub mod PluralLaws
 pub mod ContestsAlone
 pub mod ContestsLimit

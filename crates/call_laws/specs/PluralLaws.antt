@@ -21,8 +21,8 @@ drawn_in inputs = drawn inputs.session (recorded inputs) inputs.entries
 
 -- ---- a session that is signed off
 
--- A session that such an audit signs off is one that the risk limit counts, where the cards that were drawn were read as they are; also
--- among sequences of more draws.
+-- A session that such an audit signs off is one that the risk limit counts, if the drawn cards were read as they are; also among longer
+-- sequences.
 abbrev pub PluralSignedOffIsCounted : Type 0
 PluralSignedOffIsCounted =
     (words : List (List ℕ)) (files : List File) (next : Content)
@@ -48,17 +48,17 @@ pub record AnnouncedPlurality : Type 0 where
 
 -- ---- what is counted
 
--- The cards have these actual rankings, and no audit goes beyond so many draws.
+-- The cards have these actual rankings, and no audit goes beyond this number of draws.
 module _ (announced : AnnouncedPlurality) (actual : List (List ℕ)) (most : ℕ) where
   -- an audit of what was announced is signed off, and its seed draws this sequence
   pub record IsPluralSignedOffOn (sequence : List ℕ) : Type 0 where
-    -- `run` promises so where such an audit ends with status 0 (`IsPluralityAudited`)
+    -- `run` promises this if such an audit ends with status 0 (`IsPluralityAudited`)
     pub words : List (List ℕ)
     pub files : List File
     pub next : Content
     pub on : PluralGoesOn words files next
     pub signed_off : IsTrue (is_signed_off next.session)
-    -- it stands on the files that were announced, and its session has the contest and the terms
+    -- it is about the files that were announced, and its session has the contest and the terms
     pub same_files : on.bytes.basis ≡ announced.bytes
     pub same_contest : on.inputs.session.contest ≡ announced.counted.ballots.contest
     pub same_limit : on.inputs.session.session.limit ≡ announced.limit
@@ -68,7 +68,7 @@ module _ (announced : AnnouncedPlurality) (actual : List (List ℕ)) (most : ℕ
     -- each card that it drew is missing, or was read as it is
     pub true_entries :
         AreTrueEntries actual on.inputs.entries (drawn_in on.inputs on.asks.task.draws)
-    -- the sequence is what its seed draws, also behind its end
+    -- the sequence is what its seed draws, also after its end
     pub of_seed : sequence ≡ drawn_in on.inputs most
 
 -- ---- what is promised

@@ -1,11 +1,11 @@
--- The risk limit of whole polls, from the words of their calls to the count: `ConfirmedAreFew`, at the end, is what is promised; the
+-- The risk limit of whole polls, from the words of their calls to the count. `ConfirmedAreFew`, the last record, is the promise; the
 -- records before it are the premises.
 --
--- The polls that could be held of the cards of a manifest stand side by side. They have the same manifest, assertion file, limit and
--- gamma, and each has its own seed. If some way of breaking the ties of the cards elects another candidate than the assertion file
--- says, then of all sequences of draws those are few on which one of these polls confirms all claims.
+-- Think of all polls that could be held on the cards of a manifest. They have the same manifest, assertion file, limit and gamma, and
+-- each has its own seed. If some way of breaking the ties of the cards elects another candidate than the assertion file says, then one of
+-- these polls confirms all claims on few of all sequences of draws.
 --
--- No record of any card is read, and the margins of the file aren't used. It is a count, and speaks of no chance.
+-- No record of any card is read, and the margins of the file aren't used. It is a count, and says nothing about chance.
 use Rattle.std.specs.Prelude.{◌≡◌, ◌≢◌, ℕ, ◌*◌, ◌^◌, ◌≤◌, List, length, All, AllPairs, Ok, IsTrue}
 use Rattle.desk.specs.Desk.{File}
 use Rattle.manifest.specs.Cards.{Batches, cards_of}
@@ -21,8 +21,8 @@ use Rattle.raire_cli.specs.Polls.{IsPollOf, cards, drawn, is_confirmed_by}
 
 -- ---- a poll that confirms
 
--- A poll that confirms all claims is one that the risk limit of polls counts, where the cards that were drawn were read as they are;
--- also among sequences of more draws.
+-- A poll that confirms all claims is one that the risk limit of polls counts, if the drawn cards were read as they are; also among longer
+-- sequences.
 abbrev pub ConfirmedIsCounted : Type 0
 ConfirmedIsCounted =
     (words : List (List ℕ)) (files : List File) (poll : IsPollOf words files)
@@ -52,11 +52,11 @@ pub record AnnouncedPoll : Type 0 where
 
 -- ---- what is counted
 
--- The cards have these actual rankings, and no poll goes beyond so many draws.
+-- The cards have these actual rankings, and no poll goes beyond this number of draws.
 module _ (announced : AnnouncedPoll) (actual : List (List ℕ)) (most : ℕ) where
   -- a poll of what was announced confirms all claims, and its seed draws this sequence
   pub record IsConfirmedOn (sequence : List ℕ) : Type 0 where
-    -- `run` promises so where a poll ends with status 0 (`IsPolled`)
+    -- `run` promises this if a poll ends with status 0 (`IsPolled`)
     pub words : List (List ℕ)
     pub files : List File
     pub poll : IsPollOf words files
@@ -71,7 +71,7 @@ module _ (announced : AnnouncedPoll) (actual : List (List ℕ)) (most : ℕ) whe
     -- each card that it drew is missing, or was read as it is
     pub true_entries : AreTrueEntries actual poll.inputs.entries
         (drawn poll.asks.task poll.inputs poll.asks.task.draws)
-    -- the sequence is what its seed draws, also behind its end
+    -- the sequence is what its seed draws, also after its end
     pub of_seed : sequence ≡ drawn poll.asks.task poll.inputs most
 
 -- ---- what is promised

@@ -1,6 +1,7 @@
--- What a search or a trim printed, and a later call that is given it: two calls of `run`, one after the other.
+-- What a search, a trim or an adoption printed, and a later call that is given it: two calls of `run`, one after the other.
 use Rattle.std.specs.Prelude.{◌≡◌, ◌⊎◌, ◌≤◌, ℕ, List, ◌++◌, length, Option, Some, None, Ok}
 use Rattle.budget.specs.declared.budget.Budget.{Budget}
+use Rattle.budget.specs.declared.budget.Budget.TheVariants.{Sets}
 use Rattle.desk.specs.Desk.{File, held_bytes}
 use Rattle.irv_base.specs.Names.{Id}
 use Rattle.irv_base.specs.declared.limits.TheConstants.{MOST_FILE_BYTES}
@@ -10,13 +11,14 @@ use Rattle.manifest.specs.Linked.{first_without_card}
 use Rattle.manifest.specs.Manifest.{manifest_of}
 use Rattle.cli_base.specs.Ends.{Took}
 use Rattle.cli_base.specs.Statuses.{IsAnswered}
-use Rattle.command_line.specs.declared.commands.Command.TheVariants.{Check, Open, Trim, Search}
+use Rattle.command_line.specs.declared.commands.Command.TheVariants.{Adopt, Check, Open, Trim, Search, SearchFewest}
 use Rattle.raire_cli.specs.Asks.{Asks}
 use Rattle.call_laws.specs.Agreement.{Call, Failed, IsSettled}
 use Rattle.raire_cli.specs.Answers.{asked}
 use Rattle.raire_cli.specs.Confirmation.{AsksFor}
+use Rattle.raire_cli.specs.Fewest.{AsksForFewest}
 
--- The call was of these words, over a desk that holds these files. It ended with status 0, and `out`, which tells what it takes, took
+-- The call was of these words, over a desk that holds these files. It ended with status 0, and `out`, which reports what it takes, took
 -- this text.
 pub record HasPrinted (words : List (List ℕ)) (files : List File) (call : Call)
     (text : List ℕ) : Type 0 where
@@ -44,7 +46,8 @@ pub record HoldsCards (words : List (List ℕ)) (files more : List File)
   pub is_short : length bytes ≤ MOST_FILE_BYTES
   pub batches : Batches
   pub accepted : manifest_of bytes ≡ Ok batches
-  pub placed : (ballots : BallotFile) (winner : ℕ) → AsksFor words files ballots winner →
+  pub placed : (ballots : BallotFile) (winner : ℕ) →
+      AsksFor words files ballots winner ⊎ AsksForFewest words files ballots winner →
       first_without_card batches ballots ≡ None
 
 -- ---- the words of the later call
@@ -78,12 +81,29 @@ PrintedIsAccepted =
     HoldsPrinted search.task.ballots files more text check.asks.task.ballots check.asks.task.assertions →
     IsSettled others more second → second.status ≡ 0
 
--- A session is opened with it, where each ballot has a card.
+-- A session is opened with it, if each ballot has a card.
 abbrev pub PrintedIsOpened : Type 0
 PrintedIsOpened =
     (words others : List (List ℕ)) (search : Asks Search words)
     (opening : OpensTheSame search.task.contest search.task.budget others) (files more : List File) (first second : Call)
     (text : List ℕ) → HasPrinted words files first text →
+    HoldsPrinted search.task.ballots files more text opening.asks.task.ballots opening.asks.task.assertions →
+    HoldsCards words files more opening.asks.task.manifest → IsSettled others more second → second.status ≡ 0
+
+-- The same holds of what a search for the fewest NENs printed, with as many sets.
+abbrev pub FewestIsAccepted : Type 0
+FewestIsAccepted =
+    (words others : List (List ℕ)) (search : Asks SearchFewest words)
+    (check : ChecksTheSame search.task.contest (Sets search.task.sets) others) (files more : List File)
+    (first second : Call) (text : List ℕ) → HasPrinted words files first text →
+    HoldsPrinted search.task.ballots files more text check.asks.task.ballots check.asks.task.assertions →
+    IsSettled others more second → second.status ≡ 0
+
+abbrev pub FewestIsOpened : Type 0
+FewestIsOpened =
+    (words others : List (List ℕ)) (search : Asks SearchFewest words)
+    (opening : OpensTheSame search.task.contest (Sets search.task.sets) others) (files more : List File)
+    (first second : Call) (text : List ℕ) → HasPrinted words files first text →
     HoldsPrinted search.task.ballots files more text opening.asks.task.ballots opening.asks.task.assertions →
     HoldsCards words files more opening.asks.task.manifest → IsSettled others more second → second.status ≡ 0
 
@@ -95,6 +115,16 @@ TrimmedIsAccepted =
     (files more : List File) (first second : Call) (text : List ℕ) →
     HasPrinted words files first text →
     HoldsPrinted trim.task.ballots files more text check.asks.task.ballots check.asks.task.assertions →
+    IsSettled others more second → second.status ≡ 0
+
+-- A check accepts what an adoption printed.
+abbrev pub AdoptedIsAccepted : Type 0
+AdoptedIsAccepted =
+    (words others : List (List ℕ)) (adopt : Asks Adopt words)
+    (check : ChecksTheSame adopt.task.contest adopt.task.budget others)
+    (files more : List File) (first second : Call) (text : List ℕ) →
+    HasPrinted words files first text →
+    HoldsPrinted adopt.task.ballots files more text check.asks.task.ballots check.asks.task.assertions →
     IsSettled others more second → second.status ≡ 0
 
 -- Trimmed again it is printed as it is, unless the budget is spent.

@@ -1,4 +1,4 @@
--- Which file is named where the desk fails.
+-- Which file is named if the desk fails.
 use Rattle.std.specs.Prelude.{◌≡◌, ℕ, List, Option, Some, ⊤}
 use Rattle.desk.specs.Desk.{File}
 use Rattle.desk.specs.declared.served.Served.{Served}

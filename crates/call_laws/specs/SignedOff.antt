@@ -1,16 +1,16 @@
--- The risk limit of whole audits, from the words of their calls to the count: `SignedOffAreFew`, at the end, is what is promised; the
+-- The risk limit of whole audits, from the words of their calls to the count. `SignedOffAreFew`, the last record, is the promise; the
 -- records before it are the premises.
 --
--- The audits that could be held of one contest stand side by side, as many as one likes. They have the same files, limit and gamma, and
--- each has its own session and seed. If some way of breaking the ties of the cards elects another candidate than the assertion file
--- says, then of all sequences of draws those are few on which one of these audits is signed off.
+-- Think of all audits that could be held of one contest. They have the same files, limit and gamma, and each has its own session and
+-- seed. If some way of breaking the ties of the cards elects another candidate than the assertion file says, then one of these audits is
+-- signed off on few of all sequences of draws.
 --
--- What each audit may have of its own, also by a look at its draws: how many rounds there are and where they end, which of the drawn
--- cards are missing, what is noted of cards that weren't drawn, and its words and the names of its files. Several seeds may draw the
--- same cards: a sequence counts once.
+-- Each audit may choose these, even after a look at its draws: how many rounds there are and where they end, which of the drawn cards are
+-- missing, what is noted of cards that weren't drawn, its words, and the names of its files. Several seeds may draw the same cards: a
+-- sequence counts once.
 --
--- It is a count, and speaks of no chance. An audit that is begun anew with another seed draws another sequence: whoever may try seeds
--- until one audit is signed off comes upon one of the few.
+-- It is a count, and says nothing about chance. An audit that begins again with another seed draws another sequence. If you may try seeds
+-- until one audit is signed off, you will find one of the few.
 use Rattle.std.specs.Prelude.{◌≡◌, ◌≢◌, ℕ, ◌*◌, ◌^◌, ◌≤◌, List, length, All, AllPairs, Some, IsTrue}
 use Rattle.desk.specs.Desk.{File}
 use Rattle.manifest.specs.Cards.{cards_of}
@@ -41,17 +41,17 @@ pub record Announced : Type 0 where
 
 -- ---- what is counted
 
--- The cards have these actual rankings, and no audit goes beyond so many draws.
+-- The cards have these actual rankings, and no audit goes beyond this number of draws.
 module _ (announced : Announced) (actual : List (List ℕ)) (most : ℕ) where
   -- an audit of what was announced is signed off, and its seed draws this sequence
   pub record IsSignedOffOn (sequence : List ℕ) : Type 0 where
-    -- a call goes on with its session, which then is signed off: `run` promises so where an audit ends with status 0 (`IsAudited`)
+    -- a call goes on with its session, which then is signed off: `run` promises this if an audit ends with status 0 (`IsAudited`)
     pub words : List (List ℕ)
     pub files : List File
     pub next : Content
     pub on : GoesOn words files next
     pub signed_off : IsTrue (is_signed_off next.session)
-    -- it stands on the files that were announced
+    -- it is about the files that were announced
     pub same_files : on.bytes.basis ≡ announced.bytes
     -- its session has the terms that were announced
     pub same_limit : on.inputs.session.session.limit ≡ announced.limit
@@ -60,7 +60,7 @@ module _ (announced : Announced) (actual : List (List ℕ)) (most : ℕ) where
     pub few : on.asks.task.draws ≤ most
     -- each card that it drew is missing, or was read as it is
     pub true_entries : AreTrueEntries actual on.inputs.entries (drawn on.inputs on.asks.task.draws)
-    -- the sequence is what its seed draws, also behind its end
+    -- the sequence is what its seed draws, also after its end
     pub of_seed : sequence ≡ drawn on.inputs most
 
 -- ---- what is promised

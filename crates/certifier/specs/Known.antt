@@ -23,8 +23,8 @@ module _ (n : ℕ) (records : List (List ℕ)) (limit : ℕ) where
     pub under : IsTrue (is_under n records limit suffix)
     pub set_is : set_of suffix ≡ set
 
-  -- of those that end in the suffix so many are below the limit, none of them whole; where the walks keep the refuters of the ends,
-  -- these are among the keys
+  -- of those that end in the suffix, this many are below the limit, none of them whole; if the walks keep the refuters of the ends, these
+  -- are among the keys
   pub record IsThrough (keeps : Bool) (keys : List Assertion) (count : ℕ) (suffix : List ℕ)
       : Type 0 where
     pub count_is : count_by (is_under n records limit) (all_ending n suffix) ≡ count

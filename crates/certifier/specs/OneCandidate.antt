@@ -39,7 +39,7 @@ abbrev pub stop_of : Option (List ℕ) → Stop
 stop_of None = stopped.Spent
 stop_of (Some order) = stopped.Found order
 
--- the walk for the assertions is over the budget, or else the refuters of the ends that it passes are put in
+-- the walk for the assertions is over the budget, or the refuters of the ends that it passes are put in
 abbrev pub IsCovered : ℕ → List (List ℕ) → Task → ℕ → List (Assertion × ℕ) → List (Assertion × ℕ) →
     Bool → Type 0
 IsCovered n records task last before after true = cover_walk n records task last ≡ Err stopped.Spent
@@ -48,7 +48,7 @@ IsCovered n records task last before after false =
     × OnCounted walk (after ≡ gathered ghosts.cmp (score_of n records) before
     (ends_in n records task.best (all_ending n (last ∷ []))))
 
--- the end that was there, or else that of this walk, if it comes to one
+-- the end that was there, or otherwise that of this walk, if it has one
 abbrev pub IsNextEnd : ℕ → Option OrderEnd → Option OrderEnd → Result ℕ Stop → Type 0
 IsNextEnd last (Some end) next walk = next ≡ Some end
 IsNextEnd last None None walk = IsGone walk

@@ -39,7 +39,7 @@ abbrev pub order_of : Option OrderEnd → Option (List ℕ)
 order_of None = None
 order_of (Some end) = end.order
 
--- the candidate, where the walk is over the budget
+-- the candidate, if the walk is over the budget
 abbrev pub spent_by : ℕ → Option (List ℕ) → Option ℕ
 spent_by last None = Some last
 spent_by last (Some order) = None
@@ -59,7 +59,7 @@ first_end (Some a) None = Some a
 first_end (Some a) (Some b) = if nat_lt b.last a.last then Some b else Some a
 
 module _ (n : ℕ) (records : List (List ℕ)) (task : Task) where
-  -- of the candidates that are meant, an alternative winner
+  -- among the candidates that are meant, an alternative winner
   pub record IsOwn (own : ℕ → Bool) (c : ℕ) : Type 0 where
     pub below : c < n
     pub alternative : c ≢ task.winner
@@ -79,18 +79,18 @@ module _ (n : ℕ) (records : List (List ℕ)) (task : Task) where
     pub rising : AllPairs (λ a b. IsTrue (is_before a b)) keys
     pub listed : (a : Assertion) → (Contains keys a ↔ IsRefuter own a)
 
-  -- of one of these candidates the walk for the assertions is over the budget
+  -- for one of these candidates the walk for the assertions is over the budget
   pub record IsOver (own : ℕ → Bool) (last : ℕ) : Type 0 where
     pub candidate : IsOwn own last
     pub walk : cover_walk n records task last ≡ Err stopped.Spent
 
-  -- of one of these candidates the walk for the order comes to this end
+  -- for one of these candidates the walk for the order has this end
   pub record IsEndOf (own : ℕ → Bool) (end : OrderEnd) : Type 0 where
     pub candidate : IsOwn own end.last
     pub walk : order_walk n records task end.last ≡ Err (stop_of end.order)
 
-  -- Of these candidates no walk for the assertions is over the budget before the one that is named, and no walk for the order
-  -- comes to an end before the one that is named. Where none is over, the claims are those of the ends of all of them.
+  -- For these candidates no walk for the assertions is over the budget before the one that is named, and no walk for the order has an end
+  -- before the one that is named. If none is over, the claims are those of the ends of all of them.
   pub record IsPart (own : ℕ → Bool) (part : Part) : Type 0 where
     pub covers : (c : ℕ) → IsOwn own c → IsBefore c part.over → IsGone (cover_walk n records task c)
     pub over : MatchOption part.over ⊤ (IsOver own)

@@ -39,19 +39,19 @@ walk_of reach s records count =
     walked s.tail.n reach.nodes (is_under s.tail.n records reach.limit) count
     (all_ending s.tail.n s.tail.list)
 
--- a walk at this count, where so many more count, and no whole order comes
+-- a walk at this count, if this many more count, and no whole order comes
 abbrev pub walked_on : ℕ → ℕ → ℕ → Result ℕ stop.Stop
 walked_on nodes count number =
     if nat_le (count + number) nodes then Ok (count + number) else Err stopped.Spent
 
--- the answer is how that walk ends; of want of memory nothing is said
+-- the answer is how that walk ends; want of memory says nothing
 abbrev pub IsWalk : ℕ → Result WalkEnd CertFault → Result ℕ stop.Stop → Type 0
 IsWalk last (Ok (Counted count)) walk = walk ≡ Ok count
 IsWalk last (Ok (Found order)) walk = walk ≡ Err (stopped.Found order)
 IsWalk last (Err (Spent c)) walk = (c ≡ last) × (walk ≡ Err stopped.Spent)
 IsWalk last (Err Memory) walk = ⊤
 
--- what holds where the walk comes to no whole order
+-- what holds if the walk meets no whole order
 abbrev pub OnCounted : WalkEnd → Type 0 → Type 0
 OnCounted (Counted count) fact = fact
 OnCounted (Found order) fact = ⊤
@@ -69,7 +69,7 @@ ends_in n records limit suffixes = filter (is_end (low n records) limit) suffixe
 abbrev pub kept_ends : Bool → ℕ → List (List ℕ) → ℕ → List (List ℕ) → List (List ℕ)
 kept_ends keeps n records limit suffixes = if keeps then ends_in n records limit suffixes else []
 
--- the refuters of the ends among the suffixes that end in this one are put in, where the walk keeps them
+-- the refuters of the ends among the suffixes that end in this one are put in, if the walk keeps them
 abbrev pub HasGathered : Kept → Reach → Scored → List (Assertion × ℕ) → List (Assertion × ℕ) → Type 0
 HasGathered bag reach s before after =
     (records : List (List ℕ)) → IsOf bag records →

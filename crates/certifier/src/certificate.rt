@@ -26,8 +26,7 @@ pub struct Certificate {
     pub claims: Vec<Claim>,
     /// The smallest of the margins, in votes. No set of assertions that refutes these orders has a larger one.
     pub margin: u32,
-    /// Of the orders that elect another candidate, and that no true assertion of larger margin refutes, the least when
-    /// read backwards.
+    /// Of the orders that elect another candidate, and that no true assertion of larger margin refutes, the least when read backwards.
     pub order: Order,
 }
 
@@ -45,18 +44,18 @@ pub fn listed(alloc: Global, claims: &BTreeMap<Assertion, u32>) -> Result<Vec<Cl
     Ok(list)
 }
 
-/// The canonical certificate of the contest with these records, whose tabulated order is that of `tab` and whose best
-/// margin, in votes, is `best`, which is above 0: ways of breaking ties don't change the winner. The records alone determine it, whichever search found the best margin, and at any number
-/// of workers.
+/// The canonical certificate of the contest with these records, whose tabulated order is that of `tab` and whose best margin, in votes,
+/// is `best`, which is above 0: ways of breaking ties don't change the winner. Only the records determine it, whichever search found the
+/// best margin, and at any number of workers.
 ///
-/// For each alternative winner two counts are taken, of suffixes that end in that candidate and aren't whole orders:
-/// those whose low is below the best margin; and those whose low is at most the best margin and that come before the
-/// certificate's order, both read backwards. The answer is `Spent`, with the least alternative winner for whom a count
-/// is above `nodes`, exactly where there is one. The other error is want of memory.
+/// For each alternative winner two counts are taken, of suffixes that end in that candidate and aren't whole orders: those whose low is
+/// below the best margin; and those whose low is at most the best margin and that come before the certificate's order, both read
+/// backwards. The answer is `Spent`, with the least alternative winner for whom a count is above `nodes`, exactly if there is one. The
+/// other error is want of memory.
 ///
-/// The alternative winners are divided among the workers, each with tallies of its own. A worker goes into each set of candidates once for the
-/// one count and once for the other, whichever the last candidate. Besides its claims it holds the numbers that it counted from these sets on
-/// and, at one time, one suffix of each length.
+/// The alternative winners are divided among the workers, each with tallies of its own. A worker goes into each set of candidates once
+/// for the one count and once for the other, whichever the last candidate. Besides its claims it holds the numbers that it counted from
+/// these sets on and, at one time, one suffix of each length.
 pub fn certify<R: AllocGlobal + Threads + Sync>(
     rt: &R,
     counted: &Counted,

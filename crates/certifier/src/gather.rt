@@ -36,7 +36,7 @@ pub struct Dealt {
     pub workers: u32,
 }
 
-/// The sets that the walks of a worker have gone through. The count of a set doesn't hang on who stands last, so the walks of all its
+/// The sets that the walks of a worker have gone through. The count of a set doesn't depend on who is last, so the walks of all its
 /// candidates share them.
 #[derive(Drop)]
 pub struct Known {
@@ -81,8 +81,8 @@ fn cover(
     }
 }
 
-// The end of the walks for the order, where one had it earlier or this one has: it goes to the first order whose low is
-// at most the best margin.
+// The end of the walks for the order, if one had it earlier or this one has: it goes to the first order whose low is at most the best
+// margin.
 fn next_end(
     alloc: Global,
     alone: &Scored,

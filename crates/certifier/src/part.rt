@@ -7,12 +7,12 @@ use crate::claims::Claims;
 use irv_base::{Candidate, Memory, Order};
 use std::alloc::Global;
 
-/// Where a walk for the order comes to an end.
+/// How a walk for the order ends.
 #[derive(Clone, Copy)]
 pub struct OrderEnd {
     /// The suffixes of the walk end in this candidate.
     pub last: Candidate,
-    /// The order that it comes to, or none where it is over the budget.
+    /// The order that it reaches, or none if it is over the budget.
     pub order: Option<Order>,
 }
 

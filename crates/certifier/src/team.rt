@@ -1,4 +1,7 @@
 // The workers, each in a thread.
+//
+// Candidates are dealt by their numbers, each next one to the next worker. A worker doesn't know what the others have found, so it may
+// walk for an order that comes after theirs: about a third more work with twelve near-equal candidates, shared by the workers.
 ghost use Rattle.std.specs.Prelude.{◌≡◌, ◌<◌, ◌≤◌, ℕ, Bool, List, IfOk, length};
 ghost use Rattle.set_tallies.specs.Bags.{Kept, IsOf};
 ghost use Rattle.certifier.specs.OneCandidate.{IsTask};
@@ -114,7 +117,7 @@ fn gather_once<R: AllocGlobal + Threads + Sync>(
     joined(alloc, parts)
 }
 
-/// What the workers find among the suffixes of all orders that elect another candidate. Where rows of tallies take long, they begin anew
+/// What the workers find among the suffixes of all orders that elect another candidate. If rows of tallies take long, they begin again
 /// with sums over all sets, which they share.
 pub fn gather_all<R: AllocGlobal + Threads + Sync>(
     rt: &R,

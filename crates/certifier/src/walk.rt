@@ -1,4 +1,8 @@
 // A walk through the suffixes that end in one, as far as their low is below a limit.
+//
+// Below a suffix whose low is below the limit, what reaches the limit, and by which refuter, depends only on its set (laws `low_by_steps`
+// and `refuter_by_steps`). So once a walk has gone through a set, the number that counts from it on is noted, and the next suffix of this
+// set adds the number. Its refuters are among the claims already. A set is noted when its walk has ended, so no whole order is below it.
 ghost use Rattle.std.specs.Prelude.{◌≡◌, ◌≤◌, ℕ, List, if◌then◌else◌, IfOk, OnOk};
 ghost use Rattle.set_tallies.specs.Bags.{IsOf};
 ghost use Rattle.certifier.specs.Walks.{CanWalk, IsWalk, walk_of, walked_on, OnCounted, IsFrom, HasGathered};
@@ -29,13 +33,13 @@ pub struct Reach {
 /// How a walk ends.
 #[derive(Drop)]
 pub enum WalkEnd {
-    /// The walk comes to no whole order, and so many suffixes count.
+    /// The walk meets no whole order, and this many suffixes count.
     Counted(u32),
     /// The first whole order that it comes to.
     Found(Order),
 }
 
-// Puts the refuter of the suffix, with its margin, among the claims, where the walk keeps them.
+// Puts the refuter of the suffix, with its margin, among the claims, if the walk keeps them.
 fn put(claims: &mut Claims, reach: &Reach, s: &Scored) -> Result<(), Memory>
     ensures { OnOk result (claims.new
         ≡ (if reach.now.keeps
@@ -52,7 +56,7 @@ fn put(claims: &mut Claims, reach: &Reach, s: &Scored) -> Result<(), Memory>
     Ok(())
 }
 
-// How a walk ends at a suffix from which on so many count, without going in.
+// How a walk ends at a suffix from which on this many count, without going in.
 fn pass(reach: &Reach, count: u32, number: u32) -> Result<WalkEnd, CertFault>
     requires { count ≤ reach.now.nodes }
     ensures walk { IsWalk reach.now.last result (walked_on reach.now.nodes count number) }
@@ -64,11 +68,12 @@ fn pass(reach: &Reach, count: u32, number: u32) -> Result<WalkEnd, CertFault>
     Ok(WalkEnd::Counted(count + number))
 }
 
-/// Walks the suffixes that end in this one, as far as their low is below the limit, to the first whole order, and adds
-/// those that it passes to the count. The refuters of the ends, the first suffixes that reach the limit, are put among
-/// the claims, where the walk keeps them.
+/// Walks the suffixes that end in this one, as far as their low is below the limit, to the first whole order, and adds those that it
+/// passes to the count. The refuters of the ends, the first suffixes that reach the limit, are put among the claims, if the walk keeps
+/// them.
 ///
-/// It goes into each set of candidates once: of a set that is noted it adds the count, and the refuters of the ends are among the claims.
+/// It goes into each set of candidates once: for a set that is noted it adds the count, and the refuters of the ends are among the
+/// claims.
 pub fn walk(
     s: &Scored,
     reach: &Reach,

@@ -19,7 +19,7 @@ use Rattle.assertion_file.specs.Content.{Content, Plan}
 use Rattle.assertion_file.specs.Reading.{assertion_file_of}
 use Rattle.cover_checker.specs.Covers.{stands, standing_order, spent_by, verdict_on as cover_verdict, or_spent, covered_is}
 use Rattle.cover_checker.specs.Outcomes.{IsWinner}
-use Rattle.cover_checker.specs.Findings.{Answer, is_about, has_other_margin, other_margin_from, unless_covered, refuted_by, elects, smallest_margin, are_same_draws, other_draws_from, other_draws}
+use Rattle.cover_checker.specs.Findings.{Answer, is_about, has_other_margin, other_margin_from, unless_covered, refuted_by, elects, smallest_margin, are_same_draws, other_draws_from, other_draws, elected, elected_by, harder, harder_than}
 use Rattle.cover_checker.specs.Draws.{clean_draws_of}
 use Rattle.cover_checker.specs.Checks.{findings, first_found, checked_is, Judges, IsAnswer}
 use Rattle.cover_checker.proofs.Named.{spent-below}
@@ -88,15 +88,29 @@ names-cover n winner budget list = by (spent_by budget n winner list) (standing_
   by None None below order = tt
   by None (Some found) below order = order found refl
 
-names-elected : (n : ℕ) (b : Bool) → IfSome (if b then Some (Ok NotAlternative) else None) (Names n)
-names-elected n true = tt
-names-elected n false = tt
+names-alternative : (n : ℕ) (b : Bool) → IfSome (if b then Some (Ok NotAlternative) else None) (Names n)
+names-alternative n true = tt
+names-alternative n false = tt
 
-names-harder : (n hardness : ℕ) (b : Bool) (found : Option Assertion) → ((a : Assertion) → found ≡ Some a → IsTrue (is_proper n a)) →
+names-elected : (n : ℕ) (file : Content) → IfSome (elected file) (Names n)
+names-elected n file = by file.order where
+  by : (order : Option (List ℕ)) → IfSome (option_and_then (elected_by file) order) (Names n)
+  by None = tt
+  by (Some order) = names-alternative n (elects order file.winner)
+
+names-refuted : (n hardness : ℕ) (b : Bool) (found : Option Assertion) → ((a : Assertion) → found ≡ Some a → IsTrue (is_proper n a)) →
     IfSome (if b then refuted_by hardness found else None) (Names n)
-names-harder n hardness true None proper = tt
-names-harder n hardness true (Some a) proper = proper a refl
-names-harder n hardness false found proper = tt
+names-refuted n hardness true None proper = tt
+names-refuted n hardness true (Some a) proper = proper a refl
+names-refuted n hardness false found proper = tt
+
+names-harder : (records : List (List ℕ)) (file : Content) → IfSome (harder records file) (Names (length file.candidates))
+names-harder records file = by file.order where
+  by : (order : Option (List ℕ)) → IfSome (option_and_then (harder_than records file) order) (Names (length file.candidates))
+  by None = tt
+  by (Some order) =
+      let n = length file.candidates in
+      names-refuted n _ _ (refuter n records order) (λ a found. (refuter-first n records order a found).proper)
 
 names-draws-from : (n : ℕ) (plan : Plan) (at : ℕ) (claims : List Claim) (draws : List (Option ℕ)) →
     IfSome (other_draws_from plan at claims draws) (Names n)
@@ -136,8 +150,8 @@ names-judged budget ballots file about winner is =
           (
             if_not (Names n) (smallest_margin file == file.margin) (Ok (NotLeast (smallest_margin file))) tt,
             (
-              names-elected n (elects file.order file.winner),
-              (names-harder n _ _ (refuter n ballots.rankings file.order) (λ a found. (refuter-first n ballots.rankings file.order a found).proper), (names-draws n file, tt)),
+              names-elected n file,
+              (names-harder ballots.rankings file, (names-draws n file, tt)),
             ),
           ),
         ),

@@ -28,8 +28,13 @@ abbrev pub yes_lines : ℕ → ℕ → List ℕ
 yes_lines assertions margin = codes "yes\nassertions " ++ decimal assertions ++ codes "\nmargin "
     ++ decimal margin ++ codes "\n"
 
+-- a file without an order says nothing of a best margin
+abbrev pub yes_by : Option (List ℕ) → ℕ → ℕ → List ℕ
+yes_by (Some order) assertions margin = yes_lines assertions margin
+yes_by None assertions margin = yes_lines assertions margin ++ codes "not said to be best\n"
+
 abbrev pub yes_text : Content → List ℕ
-yes_text file = yes_lines (length file.claims) file.margin
+yes_text file = yes_by file.order (length file.claims) file.margin
 
 abbrev pub no_line : List ℕ → List ℕ
 no_line difference = codes "no: " ++ difference ++ codes "\n"
@@ -69,7 +74,7 @@ needs index None = needs_full_count index
 abbrev pub differs : List ℕ → Verdict
 differs difference = Answered Differs (no_line difference)
 
--- the verdict on what the checker found, told by the ids of the file
+-- the verdict on what the checker found, printed by the ids of the file
 abbrev pub found_verdict : Content → Checked → Verdict
 found_verdict file OtherContest = differs (codes "contest differs")
 found_verdict file (OtherWinner winner) = differs (winner_is (id_of file.candidates winner))

@@ -9,7 +9,7 @@ use Rattle.cli_base.specs.Outcome.{Verdict, Answered}
 use Rattle.cli_base.specs.declared.outcome.AnswerKind.TheVariants.{Done}
 use Rattle.check_command.specs.Check.{Checks, yes_text}
 
--- Of a file that the checker accepts a check comes to yes, and to nothing else.
+-- A check of a file that the checker accepts ends with yes, and with nothing besides.
 abbrev pub AcceptedIsYes : Type 0
 AcceptedIsYes =
     (budget : Budget) (ballots : BallotFile) (file : Content) (verdict : Verdict) →

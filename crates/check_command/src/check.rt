@@ -7,13 +7,14 @@ ghost use Rattle.assertion_file.specs.Ids.{id_of};
 ghost use Rattle.cli_base.specs.Accounts.{IsAccountedFor};
 ghost use Rattle.cli_base.specs.Begun.{HasCome};
 ghost use Rattle.cli_base.specs.Due.{due, IsOneOrMemory};
+ghost use Rattle.cli_base.specs.Faults.{IsFaultTold};
 ghost use Rattle.cli_base.specs.Outcome.{Answered};
 ghost use Rattle.cli_base.specs.Script.{ByDesk, Runs};
 ghost use Rattle.cli_base.specs.declared.outcome.AnswerKind.TheVariants.{Spent};
 ghost use Rattle.command.specs.Check.{IsWithinLimits};
 ghost use Rattle.report.specs.Ends.{spent_at, spent_sets};
 ghost use Rattle.report.specs.Texts.{order_text};
-ghost use Rattle.check_command.specs.Check.{Checks, script, after_ballots, differs, found_verdict, stands};
+ghost use Rattle.check_command.specs.Check.{Checks, script, after_ballots, differs, found_verdict, stands, winner_is};
 ghost use Rattle.check_command.specs.Named.{IsAmong};
 
 use crate::check_texts::{
@@ -27,12 +28,12 @@ use command::{CheckTask, FileName};
 use cover_checker::{CheckFault, Checked, check as check_file};
 use desk::Desk;
 use input_files::{assertions_in, bytes_of, readers_at_hand, votes_of_file};
-use irv_base::{Candidate, Order};
+use irv_base::{Candidate, Name, Order};
 use report::{spent_at, spent_sets};
 use std::alloc::Global;
 use std::thread::Threads;
 
-// The votes are counted by this many, where they weren't as they were read.
+// The votes are counted by this many, if they weren't as they were read.
 const WORKERS: u32 = 1;
 
 /// Whether the assertion file holds of the ballots of the contest.
@@ -43,7 +44,7 @@ pub fn answer<R: AllocGlobal + Threads + Sync, D: Desk>(
 ) -> Result<Answer, Refusal>
     requires { IsWithinLimits task.now }
     ensures held { D.held desk.new ≡ D.held desk.old }
-    ensures later { D.faults desk.old ≤ D.faults desk.new }
+    ensures faults { IsFaultTold (D.faults desk.old) (D.faults desk.new) (due result).status }
     ensures due { HasCome
         (ByDesk (D.held desk.old) (Rose (D.faults desk.old) (D.faults desk.new)))
         (D.served desk.old) (D.served desk.new)
@@ -64,7 +65,7 @@ pub fn after_votes<R: AllocGlobal + Threads + Sync, D: Desk>(
     budget: Budget,
 ) -> Result<Answer, Refusal>
     ensures held { D.held desk.new ≡ D.held desk.old }
-    ensures later { D.faults desk.old ≤ D.faults desk.new }
+    ensures faults { IsFaultTold (D.faults desk.old) (D.faults desk.new) (due result).status }
     ensures due { (ballots : BallotFile) → votes.now ≡ votes_of ballots → HasCome
         (ByDesk (D.held desk.old) (Rose (D.faults desk.old) (D.faults desk.new)))
         (D.served desk.old) (D.served desk.new)
@@ -99,7 +100,7 @@ pub fn check<R: AllocGlobal + Threads + Sync>(
     }
 }
 
-// What is told of what the checker found.
+// The answer for what the checker found.
 fn found_answer(alloc: Global, file: &AssertionFile, found: Checked) -> Result<Answer, Refusal>
     requires { IsAmong (length (file.now).candidates) found }
     ensures { IsOneOrMemory (λ verdict. verdict ≡ found_verdict file.now found) (due result) }
@@ -107,10 +108,7 @@ fn found_answer(alloc: Global, file: &AssertionFile, found: Checked) -> Result<A
     let names = file.candidates();
     match found {
         Checked::OtherContest => difference(alloc, "contest differs"),
-        Checked::OtherWinner(winner) => {
-            let text = winner_is(alloc, id_of(names, winner))?;
-            difference(alloc, text.as_str())
-        }
+        Checked::OtherWinner(winner) => other_winner(alloc, names, winner),
         Checked::OtherMargin { index, found } => {
             let text = has_margin(alloc, index, found)?;
             difference(alloc, text.as_str())
@@ -130,7 +128,7 @@ fn found_answer(alloc: Global, file: &AssertionFile, found: Checked) -> Result<A
             difference(alloc, text.as_str())
         }
         Checked::Accepted => {
-            let text = yes(alloc, file.claims().len(), file.margin())?;
+            let text = yes(alloc, file)?;
             Ok(Answer {
                 kind: AnswerKind::Done,
                 text: text.into_bytes(),
@@ -139,8 +137,8 @@ fn found_answer(alloc: Global, file: &AssertionFile, found: Checked) -> Result<A
     }
 }
 
-// The answer to a difference in words.
-fn difference(alloc: Global, text: &str) -> Result<Answer, Refusal>
+/// The answer to a difference in words.
+pub fn difference(alloc: Global, text: &str) -> Result<Answer, Refusal>
     ensures { IsOneOrMemory (λ verdict. verdict ≡ differs text.now) (due result) }
 {
     let line = no(alloc, text)?;
@@ -150,7 +148,7 @@ fn difference(alloc: Global, text: &str) -> Result<Answer, Refusal>
     })
 }
 
-/// The answer where no claim of the file refutes an order.
+/// The answer if no claim of the file refutes an order.
 pub fn standing_answer(
     alloc: Global,
     file: &AssertionFile,
@@ -160,24 +158,52 @@ pub fn standing_answer(
     ensures { IsOneOrMemory (λ verdict.
         verdict ≡ differs (stands (order_text (file.now).candidates order.now))) (due result) }
 {
-    let text = stands(alloc, file.candidates(), order)?;
+    order_stands(alloc, file.candidates(), order)
+}
+
+/// The answer if nothing refutes an order of candidates with these names.
+pub fn order_stands(alloc: Global, names: &[Name], order: &Order) -> Result<Answer, Refusal>
+    requires { IsTrue (is_order (length names.now) order.now) }
+    ensures { IsOneOrMemory (λ verdict.
+        verdict ≡ differs (stands (order_text names.now order.now))) (due result) }
+{
+    let text = stands(alloc, names, order)?;
     difference(alloc, text.as_str())
 }
 
-/// The answer where the budget of nodes is spent at this candidate.
+/// The answer if the winner is another one, of candidates with these names.
+pub fn other_winner(alloc: Global, names: &[Name], winner: Candidate) -> Result<Answer, Refusal>
+    requires { winner < length names.now }
+    ensures { IsOneOrMemory (λ verdict.
+        verdict ≡ differs (winner_is (id_of names.now winner))) (due result) }
+{
+    let text = winner_is(alloc, id_of(names, winner))?;
+    difference(alloc, text.as_str())
+}
+
+/// The answer if the budget of nodes is spent at this candidate.
 pub fn spent_answer(alloc: Global, file: &AssertionFile, last: Candidate) -> Result<Answer, Refusal>
     requires { last < length (file.now).candidates }
     ensures { IsOneOrMemory (λ verdict.
         verdict ≡ Answered Spent (spent_at (id_of (file.now).candidates last))) (due result) }
 {
-    let text = spent_at(alloc, id_of(file.candidates(), last))?;
+    candidate_spent(alloc, file.candidates(), last)
+}
+
+/// The same, of candidates with these names.
+pub fn candidate_spent(alloc: Global, names: &[Name], last: Candidate) -> Result<Answer, Refusal>
+    requires { last < length names.now }
+    ensures { IsOneOrMemory (λ verdict.
+        verdict ≡ Answered Spent (spent_at (id_of names.now last))) (due result) }
+{
+    let text = spent_at(alloc, id_of(names, last))?;
     Ok(Answer {
         kind: AnswerKind::Spent,
         text: text.into_bytes(),
     })
 }
 
-/// The answer where a budget of so many sets is spent.
+/// The answer if a budget of this many sets is spent.
 pub fn spent_sets_answer(alloc: Global, sets: u32) -> Result<Answer, Refusal>
     ensures { IsOneOrMemory (λ verdict. verdict ≡ Answered Spent (spent_sets sets)) (due result) }
 {

@@ -1,21 +1,38 @@
 // The texts of a check: yes, or a difference.
-ghost use Rattle.std.specs.Prelude.{◌≡◌, ◌≤◌, length, IfOk, IsTrue, string_bytes};
+ghost use Rattle.std.specs.Prelude.{◌≡◌, ◌≤◌, None, length, IfOk, IsTrue, string_bytes};
 ghost use Rattle.irv_base.specs.Orders.{is_order};
 ghost use Rattle.irv_base.specs.declared.limits.TheConstants.{ROOM};
 ghost use Rattle.assertions.specs.Assertions.{is_proper};
 ghost use Rattle.report.specs.Texts.{order_text, assertion_text};
-ghost use Rattle.check_command.specs.Check.{yes_lines, no_line, winner_is, has_margin, stands, smallest_is, is_refuted_by, needs, needs_draws, needs_full_count};
+ghost use Rattle.check_command.specs.Check.{yes_by, yes_lines, yes_text, no_line, winner_is, has_margin, stands, smallest_is, is_refuted_by, needs, needs_draws, needs_full_count};
 
+use assertion_file::AssertionFile;
 use assertions::Assertion;
 use irv_base::{Memory, Name, Order};
 use report::{assertion_text, order_text};
 use std::alloc::{AllocError, Global};
 
-/// The lines of a file that holds: how many assertions it has, and its margin.
-pub(crate) fn yes(alloc: Global, assertions: usize, margin: u32) -> Result<String, AllocError>
+/// The lines of a file that holds: how many assertions it has, its margin, and that this isn't said to be the best, if it has no order.
+pub(crate) fn yes(alloc: Global, file: &AssertionFile) -> Result<String, AllocError>
+    ensures { IfOk result (λ text. string_bytes text ≡ yes_text file.now) }
+{
+    let (assertions, margin) = (file.claims().len(), file.margin());
+    match file.order() {
+        Some(_order) => best_lines(alloc, assertions, margin),
+        None => cover_lines(alloc, assertions, margin),
+    }
+}
+
+fn best_lines(alloc: Global, assertions: usize, margin: u32) -> Result<String, AllocError>
     ensures { IfOk result (λ text. string_bytes text ≡ yes_lines assertions margin) }
 {
     format!(in alloc; "yes\nassertions {assertions}\nmargin {margin}\n")
+}
+
+fn cover_lines(alloc: Global, assertions: usize, margin: u32) -> Result<String, AllocError>
+    ensures { IfOk result (λ text. string_bytes text ≡ yes_by None assertions margin) }
+{
+    format!(in alloc; "yes\nassertions {assertions}\nmargin {margin}\nnot said to be best\n")
 }
 
 /// The line of a difference.

@@ -1,4 +1,4 @@
-//! The command that checks: whether an assertion file holds of the ballots of a contest. It stands on no search.
+//! The command that checks: whether an assertion file holds of the ballots of a contest. It uses no search.
 #![tactic(auto)]
 
 pub mod check;

@@ -5,7 +5,7 @@ use Rattle.desk.specs.Desk.{File, held_bytes}
 use Rattle.desk.specs.declared.served.Served.{Served}
 use Rattle.cli_base.specs.Begun.{HasBegun, IsDueAfter}
 use Rattle.cli_base.specs.Outcome.{Outcome, Verdict, Answered, Refused, outcome, status_of, out_of_memory, too_long, no_such_file}
-use Rattle.cli_base.specs.Script.{Asked, Nothing, Runs, Reading, Bytes, Missing, TooLong, Fault, Readings, AsHeld, AsTold, ByDesk, MayCome, IsDue, MayComeAfter, ComesToRead, ComesToReadAs, ComesTo, AgreeOn, Same, SameButBudget, reading_of, stop_of, IsBudgeted, OneIsSpent, IsOfContests, SameButContests, limit}
+use Rattle.cli_base.specs.Script.{Asked, Nothing, Runs, Reading, Bytes, Missing, TooLong, Fault, Readings, AsHeld, AsTold, ByDesk, MayCome, IsDue, MayComeAfter, ComesToRead, ComesToReadAs, ComesTo, AgreeOn, SameStatus, SameStatusButBudget, reading_of, stop_of, IsBudgeted, OneIsSpent, IsOfContests, SameButContests, limit}
 use Rattle.cli_base.specs.Ends.{Writing, Took, HasNewFaults, IsWhole, IsWritten}
 use Rattle.cli_base.specs.Statuses.{IsUndone, IsQuiet, Exactly, ExactlyInBudget, TookTexts, IsDefined, IsAnswered, IsNothing, HasFile, IsRefused, HasAnswer, IsReadFault, IsWriteFault, IsForErr, IsStatus, IsExact, Statuses, ExactlyInContests, ContestsStatuses}
 use Rattle.cli_base.specs.Story.{Story}
@@ -354,25 +354,25 @@ module _ {asked : Asked} {held : Option (List File)} {failed : Type 0} {before a
     only_there = only asked failed status out err files story.due is_due story.written
 
     module _ (n : ℕ) (d : Outcome) (may : MayCome (AsHeld files) asked d) (is : d.status ≡ n) where
-      same_there : AgreeOn Same asked → (status ≡ n) ⊎ IsUndone status
-      same_there agree = elim (wherever asked failed status out err files story.due is_due story.written Same (λ d. refl) agree n d may is) [
+      same_there : AgreeOn SameStatus asked → (status ≡ n) ⊎ IsUndone status
+      same_there agree = elim (wherever asked failed status out err files story.due is_due story.written SameStatus (λ d. refl) agree n d may is) [
         | inl undone ↦ inr undone
-        | inr (same, ends) ↦ inl (ends ∙ ap status_in same ∙ is)
+        | inr (same, ends) ↦ inl (ends ∙ same ∙ is)
       ]
 
-      budget_there : (n ≡ 4 → ⊥) → AgreeOn SameButBudget asked → (status ≡ n) ⊎ (status ≡ 4) ⊎ IsUndone status
+      budget_there : (n ≡ 4 → ⊥) → AgreeOn SameStatusButBudget asked → (status ≡ n) ⊎ (status ≡ 4) ⊎ IsUndone status
       budget_there not_four agree =
-          elim (wherever asked failed status out err files story.due is_due story.written SameButBudget (λ d. inl refl) agree n d may is) [
+          elim (wherever asked failed status out err files story.due is_due story.written SameStatusButBudget (λ d. inl refl) agree n d may is) [
             | inl undone ↦ inr (inr undone)
-            | inr (inl same, ends) ↦ inl (ends ∙ ap status_in same ∙ is)
+            | inr (inl same, ends) ↦ inl (ends ∙ same ∙ is)
             | inr (inr one, ends) ↦ inr (inl (ends ∙ first_spent n story.due d is not_four one))
           ]
 
-      exactly_there : (IsBudgeted n → ⊥) → AgreeOn SameButBudget asked → (status ≡ n) ⊎ IsUndone status
+      exactly_there : (IsBudgeted n → ⊥) → AgreeOn SameStatusButBudget asked → (status ≡ n) ⊎ IsUndone status
       exactly_there unbudgeted agree =
-          elim (wherever asked failed status out err files story.due is_due story.written SameButBudget (λ d. inl refl) agree n d may is) [
+          elim (wherever asked failed status out err files story.due is_due story.written SameStatusButBudget (λ d. inl refl) agree n d may is) [
             | inl undone ↦ inr undone
-            | inr (inl same, ends) ↦ inl (ends ∙ ap status_in same ∙ is)
+            | inr (inl same, ends) ↦ inl (ends ∙ same ∙ is)
             | inr (inr one, ends) ↦ absurd (unbudgeted (other_budgeted n story.due d is one))
           ]
 
@@ -388,13 +388,13 @@ module _ {asked : Asked} {held : Option (List File)} {failed : Type 0} {before a
       ])
 
   -- a command that no budget leaves open
-  pub exact_clause : AgreeOn Same asked → IsExact asked held status
+  pub exact_clause : AgreeOn SameStatus asked → IsExact asked held status
   exact_clause agree = where_told (λ files. (kind : AnswerKind) → Exactly (status_of kind) status (HasAnswer asked files kind)) (λ files is_due kind. (
     only_there files is_due (status_of kind) (HasAnswer asked files kind) (kind_free kind) (answer_from (AsHeld files) asked kind),
     λ (text, comes). let (d, may, is) = verdict_to (AsHeld files) asked (Answered kind text) comes in same_there files is_due (status_of kind) d may is agree,
   ))
 
-  module _ (agree : AgreeOn SameButBudget asked) where
+  module _ (agree : AgreeOn SameStatusButBudget asked) where
     -- a status that no budget keeps a command from
     exactly : (n : ℕ) (cause : List File → Type 0) → (IsUndone n → ⊥) → (IsBudgeted n → ⊥)
         → ((files : List File) (d : Outcome) → MayCome (AsHeld files) asked d → d.status ≡ n → cause files)

@@ -1,4 +1,4 @@
--- What a desk has served over a call, told or not told what it holds.
+-- What a desk has served over a call, whether or not it reports what it holds.
 use Rattle.std.specs.Prelude.{◌≡◌, ◌≢◌, ◌≤◌, ◌<◌, ◌⊎◌, ◌+◌, ℕ, max}
 use Rattle.desk.specs.Count.{grown, one_more}
 use Rattle.desk.specs.declared.served.Served.{Served}
@@ -8,8 +8,8 @@ use Rattle.cli_base.specs.Script.{limit}
 abbrev pub IsBroken : ℕ → Type 0
 IsBroken status = (status ≡ 8) ⊎ (status ≡ 9)
 
--- At most so many files are begun, and with status 0 just as many. A file is missing exactly where `begin` answered that there is none,
--- and too long exactly where more bytes came than the limit.
+-- At most this many files are begun, and with status 0 exactly this many. A file is missing exactly if `begin` answered that there is
+-- none, and too long exactly if more bytes came than the limit.
 pub record IsAccountedFor (files : ℕ) (before after : Served) (status : ℕ) : Type 0 where
   pub begins : after.begins ≤ before.begins + files
   pub all_begun : status ≡ 0 → grown before.begins files ≤ after.begins

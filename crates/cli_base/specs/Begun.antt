@@ -5,17 +5,17 @@ use Rattle.desk.specs.declared.served.Served.{Served}
 use Rattle.cli_base.specs.Outcome.{Outcome, out_of_memory}
 use Rattle.cli_base.specs.Script.{Readings, Asked, MayComeAfter, ComesToReadAs}
 
--- The desk has begun so many files. Its count stops at the last u64.
+-- The desk has begun this many files. Its count stops at the last u64.
 abbrev pub HasBegun : ℕ → Served → Served → Type 0
 HasBegun zero before after = after.begins ≡ before.begins
 HasBegun (suc files) before after = after.begins ≡ grown before.begins (suc files)
 
--- So many files are begun, the first ones of what is asked for, each once: all before the last one are read.
+-- This many files are begun, the first ones of what is asked for, each once: all before the last one are read.
 abbrev pub AreBegun : Readings → Asked → ℕ → Type 0
 AreBegun readings asked files =
     (files ≡ 0) ⊎ ((name : List ℕ) × ComesToReadAs readings asked files name)
 
--- What is asked for may come to this once so many files are begun, or memory runs out then.
+-- What is asked for may come to this once this many files are begun, or memory runs out then.
 abbrev pub IsDueAfter : Readings → Asked → ℕ → Outcome → Type 0
 IsDueAfter readings asked files due =
     MayComeAfter readings asked files due

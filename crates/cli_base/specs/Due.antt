@@ -18,7 +18,7 @@ abbrev pub due : Result Answer Refusal → Outcome
 due (Ok answer) = outcome (Answered answer.kind answer.text.items)
 due (Err refusal) = due_refusal refusal
 
--- the call is to stop, for the sake of a file or for want of memory
+-- the call is to stop, because of a file or for want of memory
 abbrev pub StopsAt : Readings → List ℕ → Refusal → Type 0
 StopsAt readings name refusal =
     MayStop readings name (due_refusal refusal) ⊎ (due_refusal refusal ≡ out_of_memory)
@@ -28,7 +28,7 @@ abbrev pub IsRead : Readings → List ℕ → Result (Vec ℕ Global) Refusal �
 IsRead readings name (Ok bytes) = readings name (Bytes bytes.items)
 IsRead readings name (Err refusal) = StopsAt readings name refusal
 
--- a file was read whole, and a taker has taken its bytes behind what it had
+-- a file was read whole, and a taker has taken its bytes after what it had
 abbrev pub IsTaken : {T : Type 0} → (T → Option (List ℕ)) → (T → List ℕ → Type 0) → T → T → Readings →
     List ℕ → Type 0
 IsTaken sought has_taken old new readings name =
@@ -48,7 +48,7 @@ abbrev pub IsOneOrMemory : (Verdict → Type 0) → Outcome → Type 0
 IsOneOrMemory verdicts due =
     ((verdict : Verdict) × verdicts verdict × (due ≡ outcome verdict)) ⊎ (due ≡ out_of_memory)
 
--- what a file says, or its refusal, which is told so
+-- what a file says, or its refusal, which is the answer then
 abbrev pub IsReadAs : {A Why : Type 0} → (Why → Verdict) → Result A Why → Result A Refusal → Type 0
 IsReadAs told read (Ok value) = read ≡ Ok value
 IsReadAs {A} {Why} told read (Err refusal) =

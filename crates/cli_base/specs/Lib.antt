@@ -3,6 +3,7 @@ pub mod Confirmed
 pub mod Script
 pub mod Ends
 pub mod Accounts
+pub mod Faults
 pub mod Begun
 pub mod Due
 pub mod Story

@@ -34,11 +34,11 @@ reading_of (Some bytes) = if nat_le (length bytes) limit then Bytes bytes else T
 abbrev pub Readings : Type 1
 Readings = List ℕ → Reading → Type 0
 
--- the readings of a desk that tells which files it holds: one for each name, held or not
+-- the readings of a desk that reports which files it holds: one for each name, held or not
 abbrev pub AsHeld : List File → Readings
 AsHeld files name reading = reading ≡ reading_of (held_bytes name files)
 
--- the readings of what a desk tells that it holds, and any but a fault where it doesn't tell
+-- the readings of what a desk reports that it holds, and any but a fault if it doesn't report
 abbrev pub AsTold : Option (List File) → Readings
 AsTold held name reading = MatchOption held (reading ≢ Fault) (λ files. AsHeld files name reading)
 
@@ -65,7 +65,7 @@ May readings (Read name next) due =
     MayStop readings name due
     ⊎ ((bytes : List ℕ) × readings name (Bytes bytes) × May readings (next bytes) due)
 
--- A script may come to this once it has begun so many files, each once: all of them are read, or the last one stops it.
+-- A script may come to this once it has begun this many files, each once: all of them are read, or the last one stops it.
 abbrev pub MayAfter : Readings → Script → ℕ → Outcome → Type 0
 MayAfter readings (Ends verdicts) files due = (files ≡ 0) × May readings (Ends verdicts) due
 MayAfter readings (Read name next) files due =
@@ -106,7 +106,7 @@ abbrev pub MayCome : Readings → Asked → Outcome → Type 0
 MayCome readings Nothing due = due ≡ bad_words
 MayCome readings (Runs script) due = May readings script due
 
--- What is asked for may come to this, once so many files are begun.
+-- What is asked for may come to this, once this many files are begun.
 abbrev pub MayComeAfter : Readings → Asked → ℕ → Outcome → Type 0
 MayComeAfter readings Nothing files due = (files ≡ 0) × (due ≡ bad_words)
 MayComeAfter readings (Runs script) files due = MayAfter readings script files due
@@ -144,6 +144,10 @@ AgreeOn R (Runs script) = Agree R script
 abbrev pub Same : Outcome → Outcome → Type 0
 Same due other = due ≡ other
 
+-- with the same status, whatever is written
+abbrev pub SameStatus : Outcome → Outcome → Type 0
+SameStatus due other = due.status ≡ other.status
+
 -- an answer, a tie, a full count, or a budget that was spent before it could be had
 abbrev pub IsBudgeted : ℕ → Type 0
 IsBudgeted status = (status ≡ 0) ⊎ (status ≡ 3) ⊎ (status ≡ 4) ⊎ (status ≡ 5)
@@ -156,6 +160,10 @@ OneIsSpent due other =
 -- both ends are the same, but for a budget
 abbrev pub SameButBudget : Outcome → Outcome → Type 0
 SameButBudget due other = Same due other ⊎ OneIsSpent due other
+
+-- both ends have the same status, but for a budget
+abbrev pub SameStatusButBudget : Outcome → Outcome → Type 0
+SameStatusButBudget due other = SameStatus due other ⊎ OneIsSpent due other
 
 -- what an audit of several contests may end with, once its files are read
 abbrev pub IsOfContests : ℕ → Type 0

@@ -22,7 +22,7 @@ IsForErr status =
 abbrev pub IsStatus : ℕ → Type 0
 IsStatus status = IsForErr status ⊎ (status ≡ 8) ⊎ ((kind : AnswerKind) × (status ≡ status_of kind))
 
--- no count of faults rose in the call, or stands at the last u64
+-- no count of faults rose in the call, or is at the last u64
 pub record IsQuiet (failed : Type 0) (out err : Writing) : Type 0 where
   pub desk : failed → ⊥
   pub sink_out : Failed out → ⊥
@@ -30,15 +30,15 @@ pub record IsQuiet (failed : Type 0) (out err : Writing) : Type 0 where
 
 -- ---- what is defined
 
--- The status is defined for what is asked and for the files, and the sinks took texts that are defined with it. Where the desk doesn't
--- tell its files, they are some that it may have given.
+-- The status is defined for what is asked and for the files, and the sinks took texts that are defined with it. If the desk doesn't
+-- report its files, they are some that it may have given.
 abbrev pub IsDefined : Asked → Option (List File) → ℕ → Writing → Writing → Type 0
 IsDefined asked held status out err =
     (to_out to_err : List ℕ)
     × MayCome (AsTold held) asked (record { status = status; out = to_out; err = to_err })
     × Took out to_out × Took err to_err
 
--- The defined status and texts, or undone. Where no count of faults rose, want of memory alone is left.
+-- The defined status and texts, or undone. If no count of faults rose, only want of memory is left.
 pub record IsAnswered (asked : Asked) (held : Option (List File)) (failed : Type 0) (status : ℕ)
     (out err : Writing) : Type 0 where
   pub quiet : IsQuiet failed out err → status ≢ 9 → IsDefined asked held status out err
@@ -46,18 +46,18 @@ pub record IsAnswered (asked : Asked) (held : Option (List File)) (failed : Type
 
 -- ---- causes
 
--- The call ends with this status only where that is so, and where it is so, with this status or undone.
+-- The call ends with this status only if that is so, and if it is so, with this status or undone.
 abbrev pub Exactly : ℕ → ℕ → Type 0 → Type 0
 Exactly status result cause =
     (result ≡ status → cause) × (cause → (result ≡ status) ⊎ IsUndone result)
 
--- The call ends with this status only where that is so, and where it is so, with this status, undone, or with a budget that is spent.
+-- The call ends with this status only if that is so, and if it is so, with this status, undone, or with a budget that is spent.
 abbrev pub ExactlyInBudget : ℕ → ℕ → Type 0 → Type 0
 ExactlyInBudget status result cause =
     (result ≡ status → cause) × (cause → (result ≡ status) ⊎ (result ≡ 4) ⊎ IsUndone result)
 
--- The same of an audit of several contests. Where it is so, the budget of a contest may be spent, and with it each status come that such
--- an audit may end with.
+-- The same for an audit of several contests. If it is so, the budget of a contest may be spent, and with it each status may come that
+-- such an audit may end with.
 abbrev pub ExactlyInContests : ℕ → ℕ → Type 0 → Type 0
 ExactlyInContests status result cause =
     (result ≡ status → cause) × (cause → IsOfContests result ⊎ IsUndone result)
@@ -83,8 +83,8 @@ HasAnswer asked files kind = (text : List ℕ) × ComesTo (AsHeld files) asked (
 abbrev pub TookTexts : Outcome → Writing → Writing → Type 0
 TookTexts due out err = Took out due.out × Took err due.err
 
--- The desk failed at a file that the command reads, the last one that was begun. Where the desk tells, all before it are held and gone
--- on with.
+-- The desk failed at a file that the command reads, the last one that was begun. If the desk reports its files, all before it are held
+-- and gone on with.
 pub record IsReadFault (asked : Asked) (held : Option (List File)) (failed : Type 0)
     (before after : Served) (out err : Writing) : Type 0 where
   pub cause : failed
@@ -124,7 +124,7 @@ pub record Statuses (asked : Asked) (held : Option (List File)) (failed : Type 0
   pub too_long : IfSome held (λ files. Exactly 11 status (HasFile asked files TooLong))
   pub missing : IfSome held (λ files. Exactly 12 status (HasFile asked files Missing))
 
--- Of a command that no budget leaves open each answer comes exactly where that is what the files make it.
+-- For a command that no budget leaves open, each answer comes exactly if it is what the files make it.
 abbrev pub IsExact : Asked → Option (List File) → ℕ → Type 0
 IsExact asked held status =
     IfSome held (λ files. (kind : AnswerKind) →

@@ -32,7 +32,7 @@ fn say_refusal<S: Sink>(err: &mut S, refusal: &Refusal) -> u8
     }
 }
 
-// Writes a text, and gives the status that goes with it, or 8 where a write fails.
+// Writes a text, and gives the status that goes with it, or 8 if a write fails.
 fn say<S: Sink>(sink: &mut S, text: &[u8], status: u8) -> u8
     ensures { IsSaid text.now status result (writing S.Sink sink.old sink.new) }
 {

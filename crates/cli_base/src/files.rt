@@ -6,6 +6,7 @@ ghost use Rattle.cli_base.specs.Outcome.{line, file_refusal, broken_at};
 ghost use Rattle.cli_base.specs.Accounts.{IsAccountedFor};
 ghost use Rattle.cli_base.specs.declared.outcome.RefusalKind.TheVariants.{Input};
 ghost use Rattle.cli_base.specs.Due.{due_refusal, IsRead, IsTaken, IsOrMemory, StopsAt, status_so_far};
+ghost use Rattle.cli_base.specs.Faults.{IsFaultTold};
 
 use crate::outcome::{Refusal, RefusalKind};
 use desk::{Desk, DeskFault, Taker, read_into};
@@ -15,7 +16,7 @@ use std::alloc::{AllocError, Global};
 /// All bytes of a file, or why the call stops there.
 pub fn read_file<D: Desk>(alloc: Global, desk: &mut D, file: &str) -> Result<Vec<u8>, Refusal>
     ensures held { D.held desk.new ≡ D.held desk.old }
-    ensures later { D.faults desk.old ≤ D.faults desk.new }
+    ensures faults { IsFaultTold (D.faults desk.old) (D.faults desk.new) (status_so_far result) }
     ensures read { IsRead
         (ByDesk (D.held desk.old) (Rose (D.faults desk.old) (D.faults desk.new))) file.now result }
     ensures begun { (D.served desk.new).begins ≡ one_more (D.served desk.old).begins }
@@ -36,7 +37,7 @@ pub fn read_file_into<D: Desk, T: Taker>(
 ) -> Result<(), Refusal>
     requires { T.ready into.old }
     ensures held { D.held desk.new ≡ D.held desk.old }
-    ensures later { D.faults desk.old ≤ D.faults desk.new }
+    ensures faults { IsFaultTold (D.faults desk.old) (D.faults desk.new) (status_so_far result) }
     ensures read { OnOk result (IsTaken T.sought T.has_taken into.old into.new
         (ByDesk (D.held desk.old) (Rose (D.faults desk.old) (D.faults desk.new))) file.now) }
     ensures stopped { IfErr result (StopsAt

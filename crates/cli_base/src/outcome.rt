@@ -24,7 +24,7 @@ pub enum AnswerKind {
 }
 
 impl AnswerKind {
-    /// The status that the program ends with, where the answer is written whole.
+    /// The status that the program ends with, if the answer is written whole.
     pub fn status(self) -> u8
         ensures { result ≡ status_of self }
     {
@@ -53,7 +53,7 @@ pub enum RefusalKind {
 }
 
 impl RefusalKind {
-    /// The status that the program ends with, where the line of the refusal is written whole.
+    /// The status that the program ends with, if the line of the refusal is written whole.
     pub fn status(self) -> u8
         ensures { result ≡ refusal_status self }
     {

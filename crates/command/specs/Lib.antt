@@ -2,6 +2,7 @@ pub mod Limits
 pub mod Laws
 pub mod PlanTerms
 pub mod Search
+pub mod SearchFewest
 pub mod Tabulate
 pub mod Check
 pub mod Sample
@@ -10,8 +11,10 @@ pub mod Open
 pub mod Audit
 pub mod Report
 pub mod Poll
+pub mod PollEach
 pub mod OpenPlurality
 pub mod AuditPlurality
 pub mod Trial
 pub mod Trim
+pub mod Adopt
 pub mod Contests

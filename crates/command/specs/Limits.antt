@@ -9,6 +9,6 @@ IsNamed file = 1 ≤ length file
 abbrev pub IsFromTo : ℕ → ℕ → ℕ → Type 0
 IsFromTo least most n = (least ≤ n) × (n ≤ most)
 
--- a number from 1 to so many
+-- a number from 1 to this one
 abbrev pub IsUpTo : ℕ → ℕ → Type 0
 IsUpTo most n = IsFromTo 1 most n

@@ -1,6 +1,7 @@
 //! What a command is asked to do: a task a command, with the names of its files and its numbers, and their limits.
 #![tactic(auto)]
 
+mod adopt;
 mod audit;
 mod audit_plurality;
 mod check;
@@ -13,13 +14,16 @@ mod open_plurality;
 mod plan;
 mod plan_terms;
 mod poll;
+mod poll_each;
 mod report;
 mod sample;
 mod search;
+mod search_fewest;
 mod tabulate;
 mod trial;
 mod trim;
 
+pub use adopt::AdoptTask;
 pub use audit::AuditTask;
 pub use audit_plurality::AuditPluralityTask;
 pub use check::CheckTask;
@@ -34,9 +38,11 @@ pub use open_plurality::OpenPluralityTask;
 pub use plan::PlanTask;
 pub use plan_terms::PlanTerms;
 pub use poll::PollTask;
+pub use poll_each::PollEachTask;
 pub use report::ReportTask;
 pub use sample::SampleTask;
 pub use search::SearchTask;
+pub use search_fewest::SearchFewestTask;
 pub use tabulate::TabulateTask;
 pub use trial::TrialTask;
 pub use trim::TrimTask;

@@ -13,7 +13,7 @@ pub struct OpenPluralityTask {
     pub manifest: FileName,
     /// The seed of the draws.
     pub seed: Seed,
-    /// The contest, which may be left out where the file has only one.
+    /// The contest, which may be omitted if the file has only one.
     pub contest: Option<Name>,
     /// The risk limit, in millionths.
     pub limit: u32,

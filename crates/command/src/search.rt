@@ -10,7 +10,7 @@ use irv_base::Name;
 pub struct SearchTask {
     /// The ballot file.
     pub ballots: FileName,
-    /// The contest, which may be left out where the file has only one.
+    /// The contest, which may be omitted if the file has only one.
     pub contest: Option<Name>,
     /// How many threads search.
     pub workers: u32,

@@ -11,7 +11,7 @@ pub struct TrimTask {
     pub ballots: FileName,
     /// The assertion file.
     pub assertions: FileName,
-    /// The contest, which may be left out where the file has only one.
+    /// The contest, which may be omitted if the file has only one.
     pub contest: Option<Name>,
     /// How far the check may go, and each trial without a claim.
     pub budget: Budget,

@@ -1,6 +1,6 @@
 -- What a line asks for is checked.
 use Rattle.std.proofs.Common.{◌≡◌, ◌≤◌, ◌<◌, ◌&&◌, ◌||◌, ◌==◌, ℕ, zero, suc, List, [], ◌∷◌, Option, Some, None, Bool, true, false, not, length, nat_le, nat_lt, refl, sym, ap, ◌∙◌, subst, arith, leb-true, ltb-true}
-use Rattle.std.specs.Prelude.{unwrap_or, option_map, is_some, IfSome}
+use Rattle.std.specs.Prelude.{unwrap_or, option_map, is_some, IfSome, if◌then◌else◌}
 use Rattle.std.specs.List.{list_all, list_any}
 use Rattle.std.specs.Str.{bytes_eq}
 use Rattle.std.proofs.lemmas.Bool.{and_parts, false≢true}
@@ -11,17 +11,17 @@ use Rattle.budget.specs.Budgets.{IsWithin}
 use Rattle.budget.specs.declared.limits.TheConstants.{MOST_NODES, MOST_SETS}
 use Rattle.command.specs.Limits.{IsNamed, IsFromTo, IsUpTo}
 use Rattle.command.specs.PlanTerms.{AreWithinLimits}
-use Rattle.command_line.specs.Line.{are_right, is_given_right, pieces_of, is_line_of, line_named, is_line, command_of, meaning, file, seed, value, given_number, number_of, budget_with, terms_with}
+use Rattle.command_line.specs.Line.{are_right, is_given_right, pieces_of, is_line_of, line_named, is_line, command_of, meaning, file, seed, value, given_number, number_of, number_or_best, budget_with, terms_with}
 use Rattle.command_line.specs.Pieces.{Piece, File, Given, Stray, fits, files_in}
-use Rattle.command_line.specs.Table.{commands, form_of, text_of, kind_of, default_of, is_needed}
-use Rattle.command_line.specs.Values.{is_number, is_number_within, number, is_value}
+use Rattle.command_line.specs.Table.{commands, form_of, kind_of, default_of, is_needed, is_same}
+use Rattle.command_line.specs.Values.{is_best, is_number, is_number_within, number, is_value}
 use Rattle.sampler.specs.Seeds.{is_seed}
 use Rattle.command_line.specs.declared.table.CommandName.{CommandName}
 use Rattle.command_line.specs.declared.table.CommandName.TheVariants as command
 use Rattle.command_line.specs.declared.table.OptionName.{OptionName}
 use Rattle.command_line.specs.declared.table.OptionName.TheVariants as option
 use Rattle.command_line.specs.declared.table.ValueKind.{ValueKind}
-use Rattle.command_line.specs.declared.table.ValueKind.TheVariants.{Id, Seed, Number, FreeNumber}
+use Rattle.command_line.specs.declared.table.ValueKind.TheVariants.{Id, Seed, Number, FreeNumber, NumberOrBest, Flag}
 use Rattle.command_line.proofs.Meanings.{same_option, value-fits}
 use Rattle.command_line.proofs.Needed.{IsRight, parts, needed_given, seed_given}
 
@@ -74,18 +74,36 @@ free_from_to least most name kind pieces h =
       by None fit = tt
       by (Some v) fit = within least most v (fit v refl)
 
+best_from_to : (least most default : ℕ) (name : OptionName) → kind_of name ≡ NumberOrBest least most default → IsFromTo least most default →
+    (pieces : List Piece) → list_all fits pieces ≡ true → IfSome (number_or_best default (value name pieces)) (IsFromTo least most)
+best_from_to least most default name kind left_out pieces h =
+    by (value name pieces) (λ v e. subst (λ k. is_value k v ≡ true) kind (value-fits name pieces h v e)) where
+      or : (v : List ℕ) (best : Bool) → (best || is_number_within least most v) ≡ true →
+          IfSome (if best then None else Some (number v)) (IsFromTo least most)
+      or v true fit = tt
+      or v false fit = within least most v fit
+
+      by : (r : Option (List ℕ)) → ((v : List ℕ) → r ≡ Some v → (is_best v || is_number_within least most v) ≡ true) →
+          IfSome (number_or_best default r) (IsFromTo least most)
+      by None fit = left_out
+      by (Some v) fit = or v (is_best v) (fit v refl)
+
 -- what the value of an option is, where it is given right
 abbrev IsGiven : ValueKind → OptionName → List Piece → Type 0
 IsGiven Id option pieces = Unit {0}
 IsGiven Seed option pieces = is_seed (seed pieces) ≡ true
 IsGiven (Number least most default) option pieces = IsFromTo least most (number_of option pieces)
 IsGiven (FreeNumber least most) option pieces = IfSome (given_number option pieces) (IsFromTo least most)
+IsGiven (NumberOrBest least most default) option pieces = IfSome (number_or_best default (value option pieces)) (IsFromTo least most)
+IsGiven Flag option pieces = Unit {0}
 
 -- the number of a line that doesn't give it is within the limits too
 abbrev is_default : ValueKind → Bool
 is_default Id = true
 is_default Seed = true
 is_default (FreeNumber least most) = true
+is_default (NumberOrBest least most default) = nat_le least default && nat_le default most
+is_default Flag = true
 is_default (Number least most None) = true
 is_default (Number least most (Some default)) = nat_le least default && nat_le default most
 
@@ -105,6 +123,10 @@ given option pieces fit right = by (kind_of option) refl (defaults_fit option) w
   by Id kind fits = tt
   by Seed kind fits = seed_given pieces fit (subst (λ o. is_given_right o pieces ≡ true) (is_the_seed option kind) right)
   by (FreeNumber least most) kind fits = free_from_to least most option kind pieces fit
+  by (NumberOrBest least most default) kind fits =
+      let (low, high) = and_parts (nat_le least default) (nat_le default most) fits in
+      best_from_to least most default option kind (leb-true least default low, leb-true default most high) pieces fit
+  by Flag kind fits = tt
   by (Number least most None) kind fits =
       let (v, is) = needed_given option pieces (ap is_needed kind) right in
       number_from_to least most None option kind pieces fit (λ none. let e : Some v ≡ None = sym is ∙ none in absurd (cc e))
@@ -115,17 +137,17 @@ given option pieces fit right = by (kind_of option) refl (defaults_fit option) w
 -- ---- the options of a command
 
 -- one of these
-abbrev has : OptionName → List OptionName → Bool
-has option options = list_any (λ other. bytes_eq (text_of other) (text_of option)) options
+abbrev pub has : OptionName → List OptionName → Bool
+has option options = list_any (λ other. is_same other option) options
 
-right_among : (options : List OptionName) (option : OptionName) (pieces : List Piece) → has option options ≡ true →
+pub right_among : (options : List OptionName) (option : OptionName) (pieces : List Piece) → has option options ≡ true →
     list_all (λ option. is_given_right option pieces) options ≡ true → is_given_right option pieces ≡ true
 right_among [] option pieces among all = absurd (false≢true among)
 right_among (other ∷ options) option pieces among all =
     let (first, rest) = and_parts (is_given_right other pieces) (list_all (λ option. is_given_right option pieces) options) all in
-    by (bytes_eq (text_of other) (text_of option)) refl among first (λ among. right_among options option pieces among rest)
+    by (is_same other option) refl among first (λ among. right_among options option pieces among rest)
   where
-    by : (same : Bool) → bytes_eq (text_of other) (text_of option) ≡ same → (same || has option options) ≡ true → is_given_right other pieces ≡ true →
+    by : (same : Bool) → is_same other option ≡ same → (same || has option options) ≡ true → is_given_right other pieces ≡ true →
         (has option options ≡ true → is_given_right option pieces ≡ true) → is_given_right option pieces ≡ true
     by true same among first rest = subst (λ o. is_given_right o pieces ≡ true) (same_option other option same) first
     by false same among first rest = rest among
@@ -161,6 +183,16 @@ meaning_checked command.Search pieces line =
       floor = value option.Floor refl;
       plan = terms_checked pieces (given_number option.Cards pieces) (value option.Cards refl) (value option.Limit refl) (value option.Gamma refl);
     }
+meaning_checked command.SearchFewest pieces line =
+    let file = named command.SearchFewest pieces line in
+    let value = value_of command.SearchFewest pieces line in
+    record {
+      ballots = file 0 refl;
+      workers = value option.Workers refl;
+      sets = value option.FewestSets refl;
+      floor = value option.Floor refl;
+      plan = terms_checked pieces (given_number option.Cards pieces) (value option.Cards refl) (value option.Limit refl) (value option.Gamma refl);
+    }
 meaning_checked command.Tabulate pieces line =
     let file = named command.Tabulate pieces line in
     let value = value_of command.Tabulate pieces line in
@@ -179,6 +211,14 @@ meaning_checked command.Trim pieces line =
     record {
       ballots = file 0 refl;
       assertions = file 1 refl;
+      budget = budget_checked (number_of option.Nodes pieces) (given_number option.Sets pieces) (value option.Nodes refl) (value option.Sets refl);
+    }
+meaning_checked command.Adopt pieces line =
+    let file = named command.Adopt pieces line in
+    let value = value_of command.Adopt pieces line in
+    record {
+      ballots = file 0 refl;
+      claims = file 1 refl;
       budget = budget_checked (number_of option.Nodes pieces) (given_number option.Sets pieces) (value option.Nodes refl) (value option.Sets refl);
     }
 meaning_checked command.Sample pieces line =
@@ -227,6 +267,19 @@ meaning_checked command.Poll pieces line =
       draws = value option.Draws refl;
       limit = value option.Limit refl;
       gamma = value option.Gamma refl;
+      nodes = value option.Nodes refl;
+    }
+meaning_checked command.PollEach pieces line =
+    let file = named command.PollEach pieces line in
+    let value = value_of command.PollEach pieces line in
+    record {
+      manifest = file 0 refl;
+      assertions = file 1 refl;
+      seen = file 2 refl;
+      seed = value option.Seed refl;
+      draws = value option.Draws refl;
+      limit = value option.Limit refl;
+      gamma = value option.EachGamma refl;
       nodes = value option.Nodes refl;
     }
 meaning_checked command.OpenPlurality pieces line =

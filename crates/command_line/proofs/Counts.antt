@@ -2,7 +2,7 @@
 use Rattle.std.proofs.Common.{◌≡◌, ◌≤◌, ◌<◌, ◌+◌, ◌^◌, ℕ, List, [], ◌∷◌, Option, Some, None, String, length, map, refl, arith}
 use Rattle.std.specs.declared.alloc.Global.{Global}
 use Rattle.command_line.specs.Words.{texts}
-use Rattle.command_line.specs.Pieces.{Piece, File, WordSort, Dashes, Plain, Named, Valued, Unknown, pieces, pieces_at, pieces_from, word_sort}
+use Rattle.command_line.specs.Pieces.{Piece, File, WordSort, Dashes, Plain, Flagged, Named, Valued, Unknown, pieces, pieces_at, pieces_from, word_sort}
 use Rattle.command_line.specs.declared.table.OptionName.{OptionName}
 
 length-files : (words : List (List ℕ)) → length (map File words) ≡ length words
@@ -26,6 +26,7 @@ at_most options None (word ∷ words) = by (word_sort options word) (λ waiting.
       → length (pieces_at sort word words (λ waiting. pieces_from options waiting words)) ≤ length (word ∷ words) + 0
   by Dashes h = omega (arith, length-files words)
   by Plain h = omega (arith, h None)
+  by (Flagged option) h = omega (arith, h None)
   by (Named option) h = omega (arith, h (Some option))
   by (Valued option value) h = omega (arith, h None)
   by Unknown h = omega (arith, h None)

@@ -1,15 +1,18 @@
 -- The laws of lines.
 use Rattle.std.specs.Prelude.{◌≡◌, ℕ, Bool, true, false, List, [], ◌∷◌, replicate, Some, None, is_some, codes}
 use Rattle.command.specs.Search as search
+use Rattle.command.specs.SearchFewest as search_fewest
 use Rattle.command.specs.Tabulate as tabulate
 use Rattle.command.specs.Check as check
 use Rattle.command.specs.Trim as trim
+use Rattle.command.specs.Adopt as adopt
 use Rattle.command.specs.Sample as sample
 use Rattle.command.specs.Plan as plan
 use Rattle.command.specs.Open as opening
 use Rattle.command.specs.Audit as audit
 use Rattle.command.specs.Report as report
 use Rattle.command.specs.Poll as poll
+use Rattle.command.specs.PollEach as poll_each
 use Rattle.command.specs.OpenPlurality as plurality_opening
 use Rattle.command.specs.AuditPlurality as plurality_audit
 use Rattle.command.specs.Contests as contests
@@ -18,31 +21,34 @@ use Rattle.command_line.specs.Line.{is_line, is_line_of, command_of}
 use Rattle.command_line.specs.Table.{kind_of}
 use Rattle.command_line.specs.Values.{is_number, is_value}
 use Rattle.command_line.specs.declared.commands.Command.{Command}
-use Rattle.command_line.specs.declared.commands.Command.TheVariants.{Search, Tabulate, Check, Trim, Sample, Plan, Open, Audit, Report, Poll, OpenPlurality, AuditPlurality, Contests, Trial}
+use Rattle.command_line.specs.declared.commands.Command.TheVariants.{Search, SearchFewest, Tabulate, Check, Trim, Adopt, Sample, Plan, Open, Audit, Report, Poll, PollEach, OpenPlurality, AuditPlurality, Contests, Trial}
 use Rattle.budget.specs.declared.budget.Budget.{Budget}
 use Rattle.budget.specs.declared.budget.Budget.TheVariants as budget_of
-use Rattle.budget.specs.declared.limits.TheConstants.{DEFAULT_NODES}
+use Rattle.budget.specs.declared.limits.TheConstants.{DEFAULT_NODES, MOST_SETS}
 use Rattle.command.specs.declared.tabulate.TabulateTask.{TabulateTask}
 use Rattle.command.specs.declared.search.SearchTask.{SearchTask}
+use Rattle.command.specs.declared.search_fewest.SearchFewestTask.{SearchFewestTask}
 use Rattle.command.specs.declared.check.CheckTask.{CheckTask}
 use Rattle.command.specs.declared.trim.TrimTask.{TrimTask}
+use Rattle.command.specs.declared.adopt.AdoptTask.{AdoptTask}
 use Rattle.command.specs.declared.plan.PlanTask.{PlanTask}
 use Rattle.command.specs.declared.open.OpenTask.{OpenTask}
 use Rattle.command.specs.declared.audit.AuditTask.{AuditTask}
 use Rattle.command.specs.declared.poll.PollTask.{PollTask}
+use Rattle.command.specs.declared.poll_each.PollEachTask.{PollEachTask}
 use Rattle.command.specs.declared.open_plurality.OpenPluralityTask.{OpenPluralityTask}
 use Rattle.command.specs.declared.contests.ContestsTask.{ContestsTask}
 use Rattle.command.specs.declared.trial.TrialTask.{TrialTask}
 use Rattle.command.specs.declared.limits.TheConstants.{DEFAULT_WORKERS, DEFAULT_FLOOR, DEFAULT_LIMIT, DEFAULT_GAMMA, DEFAULT_CANDIDATES, DEFAULT_BALLOTS}
 use Rattle.command_line.specs.declared.table.CommandName.{CommandName}
 use Rattle.command_line.specs.declared.table.OptionName.{OptionName}
-use Rattle.command_line.specs.declared.table.OptionName.TheVariants.{Workers, Nodes, Sets, Floor, Cards, Seed, Draws, Limit, Gamma, Number, Candidates, Ballots}
+use Rattle.command_line.specs.declared.table.OptionName.TheVariants.{Workers, Nodes, Sets, FewestSets, Fewest, Floor, Cards, Seed, Draws, Limit, Gamma, EachGamma, Each, Number, Candidates, Ballots}
 
--- Words are a line exactly where they have a meaning.
+-- Words are a line exactly if they have a meaning.
 abbrev pub LinesHaveMeanings : Type 0
 LinesHaveMeanings = (words : List (List ℕ)) → is_line words ≡ is_some (command_of words)
 
--- Words are a line of at most one command, also where two commands have the same word.
+-- Words are a line of at most one command, also if two commands have the same word.
 abbrev pub LinesAreOfOne : Type 0
 LinesAreOfOne =
     (word : List ℕ) (words : List (List ℕ)) (a b : CommandName) →
@@ -53,15 +59,18 @@ LinesAreOfOne =
 -- the files have names, the numbers are within their limits, and a seed is one
 abbrev pub IsChecked : Command → Type 0
 IsChecked (Search task) = search.IsWithinLimits task
+IsChecked (SearchFewest task) = search_fewest.IsWithinLimits task
 IsChecked (Tabulate task) = tabulate.IsWithinLimits task
 IsChecked (Check task) = check.IsWithinLimits task
 IsChecked (Trim task) = trim.IsWithinLimits task
+IsChecked (Adopt task) = adopt.IsWithinLimits task
 IsChecked (Sample task) = sample.IsWithinLimits task
 IsChecked (Plan task) = plan.IsWithinLimits task
 IsChecked (Open task) = opening.IsWithinLimits task
 IsChecked (Audit task) = audit.IsWithinLimits task
 IsChecked (Report task) = report.IsWithinLimits task
 IsChecked (Poll task) = poll.IsWithinLimits task
+IsChecked (PollEach task) = poll_each.IsWithinLimits task
 IsChecked (OpenPlurality task) = plurality_opening.IsWithinLimits task
 IsChecked (AuditPlurality task) = plurality_audit.IsWithinLimits task
 IsChecked (Contests task) = contests.IsWithinLimits task
@@ -89,6 +98,12 @@ pub record Examples : Type 0 where
   pub no_sets : is_taken Sets (codes "0") ≡ false
   pub most_sets : is_taken Sets (codes "1048576") ≡ true
   pub more_sets : is_taken Sets (codes "1048577") ≡ false
+  pub least_fewest_sets : is_taken FewestSets (codes "1") ≡ true
+  pub no_fewest_sets : is_taken FewestSets (codes "0") ≡ false
+  pub most_fewest_sets : is_taken FewestSets (codes "1048576") ≡ true
+  pub more_fewest_sets : is_taken FewestSets (codes "1048577") ≡ false
+  pub no_value_of_fewest : is_taken Fewest (codes "") ≡ true
+  pub value_of_fewest : is_taken Fewest (codes "1") ≡ false
   pub least_floor : is_taken Floor (codes "1") ≡ true
   pub no_floor : is_taken Floor (codes "0") ≡ false
   pub most_floor : is_taken Floor (codes "1000000") ≡ true
@@ -109,6 +124,14 @@ pub record Examples : Type 0 where
   pub no_gamma : is_taken Gamma (codes "0") ≡ false
   pub most_gamma : is_taken Gamma (codes "500") ≡ true
   pub more_gamma : is_taken Gamma (codes "501") ≡ false
+  pub least_each_gamma : is_taken EachGamma (codes "1") ≡ true
+  pub no_each_gamma : is_taken EachGamma (codes "0") ≡ false
+  pub most_each_gamma : is_taken EachGamma (codes "1000000") ≡ true
+  pub more_each_gamma : is_taken EachGamma (codes "1000001") ≡ false
+  pub best_gamma : is_taken EachGamma (codes "best") ≡ true
+  pub longer_word : is_taken EachGamma (codes "best ") ≡ false
+  pub no_value : is_taken Each (codes "") ≡ true
+  pub some_value : is_taken Each (codes "1") ≡ false
   pub least_number : is_taken Number (codes "0") ≡ true
   pub most_number : is_taken Number (codes "4294967295") ≡ true
   pub more_number : is_taken Number (codes "4294967296") ≡ false
@@ -194,6 +217,16 @@ default_search = record {
   plan = None;
 }
 
+abbrev pub default_search_fewest : SearchFewestTask
+default_search_fewest = record {
+  ballots = codes "b";
+  contest = None;
+  workers = DEFAULT_WORKERS;
+  sets = MOST_SETS;
+  floor = DEFAULT_FLOOR;
+  plan = None;
+}
+
 abbrev pub default_check : CheckTask
 default_check =
     record { ballots = codes "b"; assertions = codes "a"; contest = None; budget = default_budget }
@@ -201,6 +234,10 @@ default_check =
 abbrev pub default_trim : TrimTask
 default_trim =
     record { ballots = codes "b"; assertions = codes "a"; contest = None; budget = default_budget }
+
+abbrev pub default_adopt : AdoptTask
+default_adopt =
+    record { ballots = codes "b"; claims = codes "c"; contest = None; budget = default_budget }
 
 abbrev pub default_plan : PlanTask
 default_plan = record {
@@ -242,6 +279,18 @@ default_poll = record {
   draws = 2;
   limit = DEFAULT_LIMIT;
   gamma = DEFAULT_GAMMA;
+  nodes = DEFAULT_NODES;
+}
+
+abbrev pub default_poll_each : PollEachTask
+default_poll_each = record {
+  manifest = codes "m";
+  assertions = codes "a";
+  seen = codes "t";
+  seed = codes "s";
+  draws = 2;
+  limit = DEFAULT_LIMIT;
+  gamma = Some DEFAULT_GAMMA;
   nodes = DEFAULT_NODES;
 }
 
@@ -302,6 +351,20 @@ pub record Meanings : Type 0 where
       }))
   pub search_left_out :
       command_of (codes "search" ∷ codes "b" ∷ []) ≡ Some (Search default_search)
+  pub search_fewest :
+      command_of (codes "search" ∷ codes "--fewest" ∷ codes "b" ∷ codes "--contest=c"
+      ∷ codes "--workers=2" ∷ codes "--sets=3" ∷ codes "--floor=4" ∷ codes "--cards=5"
+      ∷ codes "--limit=6" ∷ codes "--gamma=7" ∷ [])
+      ≡ Some (SearchFewest (record default_search_fewest {
+        contest = Some (codes "c");
+        workers = 2;
+        sets = 3;
+        floor = 4;
+        plan = Some (record { cards = 5; limit = 6; gamma = 7 });
+      }))
+  pub search_fewest_left_out :
+      command_of (codes "search" ∷ codes "b" ∷ codes "--fewest" ∷ [])
+      ≡ Some (SearchFewest default_search_fewest)
   pub check :
       command_of (codes "check" ∷ codes "b" ∷ codes "a" ∷ codes "--contest=c"
       ∷ codes "--nodes=2" ∷ [])
@@ -320,6 +383,15 @@ pub record Meanings : Type 0 where
       }))
   pub trim_left_out :
       command_of (codes "trim" ∷ codes "b" ∷ codes "a" ∷ []) ≡ Some (Trim default_trim)
+  pub adopt :
+      command_of (codes "adopt" ∷ codes "b" ∷ codes "c" ∷ codes "--contest=d"
+      ∷ codes "--nodes=2" ∷ [])
+      ≡ Some (Adopt (record default_adopt {
+        contest = Some (codes "d");
+        budget = budget_of.Nodes 2;
+      }))
+  pub adopt_left_out :
+      command_of (codes "adopt" ∷ codes "b" ∷ codes "c" ∷ []) ≡ Some (Adopt default_adopt)
   pub sample :
       command_of (codes "sample" ∷ codes "m" ∷ codes "--seed=s" ∷ codes "--draws=2" ∷ [])
       ≡ Some (Sample (record { manifest = codes "m"; seed = codes "s"; draws = 2 }))
@@ -359,6 +431,19 @@ pub record Meanings : Type 0 where
       command_of (codes "poll" ∷ codes "m" ∷ codes "a" ∷ codes "t" ∷ codes "--seed=s"
       ∷ codes "--draws=2" ∷ [])
       ≡ Some (Poll default_poll)
+  pub poll_each :
+      command_of (codes "poll" ∷ codes "--each" ∷ codes "m" ∷ codes "a" ∷ codes "t"
+      ∷ codes "--seed=s" ∷ codes "--draws=2" ∷ codes "--limit=3" ∷ codes "--gamma=501"
+      ∷ codes "--nodes=5" ∷ [])
+      ≡ Some (PollEach (record default_poll_each { limit = 3; gamma = Some 501; nodes = 5 }))
+  pub poll_each_left_out :
+      command_of (codes "poll" ∷ codes "m" ∷ codes "a" ∷ codes "t" ∷ codes "--seed=s"
+      ∷ codes "--draws=2" ∷ codes "--each" ∷ [])
+      ≡ Some (PollEach default_poll_each)
+  pub best_gammas :
+      command_of (codes "poll" ∷ codes "m" ∷ codes "a" ∷ codes "t" ∷ codes "--seed=s"
+      ∷ codes "--draws=2" ∷ codes "--gamma" ∷ codes "best" ∷ codes "--each" ∷ [])
+      ≡ Some (PollEach (record default_poll_each { gamma = None }))
   pub open_plurality :
       command_of (codes "plurality" ∷ codes "b" ∷ codes "m" ∷ codes "--seed=s"
       ∷ codes "--contest=c" ∷ codes "--limit=2" ∷ codes "--gamma=3" ∷ [])
@@ -431,6 +516,9 @@ pub record SetsMeanings : Type 0 where
   pub trim :
       command_of (codes "trim" ∷ codes "b" ∷ codes "a" ∷ codes "--sets=8" ∷ [])
       ≡ Some (Trim (record default_trim { budget = budget_of.Sets 8 }))
+  pub adopt :
+      command_of (codes "adopt" ∷ codes "b" ∷ codes "c" ∷ codes "--sets=8" ∷ [])
+      ≡ Some (Adopt (record default_adopt { budget = budget_of.Sets 8 }))
   pub open_session :
       command_of (codes "open" ∷ codes "b" ∷ codes "m" ∷ codes "a" ∷ codes "--seed=s"
       ∷ codes "--sets=8" ∷ [])
@@ -461,6 +549,16 @@ pub record NoLines : Type 0 where
       is_line (codes "search" ∷ codes "b" ∷ codes "--sets=1" ∷ codes "--sets=1" ∷ []) ≡ false
   pub sets_of_a_tabulation :
       is_line (codes "tabulate" ∷ codes "b" ∷ codes "--sets=1" ∷ []) ≡ false
+  pub fewest_and_nodes :
+      is_line (codes "search" ∷ codes "b" ∷ codes "--fewest" ∷ codes "--nodes=1" ∷ []) ≡ false
+  pub fewest_of_some :
+      is_line (codes "search" ∷ codes "b" ∷ codes "--fewest=1" ∷ []) ≡ false
+  pub fewest_twice :
+      is_line (codes "search" ∷ codes "b" ∷ codes "--fewest" ∷ codes "--fewest" ∷ []) ≡ false
+  pub fewest_limit_without_cards :
+      is_line (codes "search" ∷ codes "b" ∷ codes "--fewest" ∷ codes "--limit=3" ∷ []) ≡ false
+  pub fewest_of_a_trial :
+      is_line (codes "trial" ∷ codes "--number=0" ∷ codes "--fewest" ∷ []) ≡ false
   pub hyphen_alone : is_line (codes "report" ∷ codes "-" ∷ []) ≡ false
   pub file_without_name : is_line (codes "report" ∷ codes "" ∷ []) ≡ false
   pub hyphen_as_value :
@@ -471,6 +569,20 @@ pub record NoLines : Type 0 where
       is_line (codes "poll" ∷ codes "m" ∷ codes "a" ∷ codes "t" ∷ codes "--seed=s" ∷ []) ≡ false
   pub poll_without_seed :
       is_line (codes "poll" ∷ codes "m" ∷ codes "a" ∷ codes "t" ∷ codes "--draws=2" ∷ []) ≡ false
+  pub poll_with_large_gamma :
+      is_line (codes "poll" ∷ codes "m" ∷ codes "a" ∷ codes "t" ∷ codes "--seed=s"
+      ∷ codes "--draws=2" ∷ codes "--gamma=501" ∷ []) ≡ false
+  pub poll_with_best_gamma :
+      is_line (codes "poll" ∷ codes "m" ∷ codes "a" ∷ codes "t" ∷ codes "--seed=s"
+      ∷ codes "--draws=2" ∷ codes "--gamma=best" ∷ []) ≡ false
+  pub flag_with_value :
+      is_line (codes "poll" ∷ codes "m" ∷ codes "a" ∷ codes "t" ∷ codes "--seed=s"
+      ∷ codes "--draws=2" ∷ codes "--each=" ∷ []) ≡ false
+  pub flag_twice :
+      is_line (codes "poll" ∷ codes "m" ∷ codes "a" ∷ codes "t" ∷ codes "--seed=s"
+      ∷ codes "--draws=2" ∷ codes "--each" ∷ codes "--each" ∷ []) ≡ false
+  pub flag_of_another_command :
+      is_line (codes "report" ∷ codes "s" ∷ codes "--each" ∷ []) ≡ false
   pub round_with_seed :
       is_line (codes "plurality" ∷ codes "s" ∷ codes "b" ∷ codes "m" ∷ codes "t"
       ∷ codes "--draws=2" ∷ codes "--seed=s" ∷ []) ≡ false

@@ -1,26 +1,26 @@
 -- What is a line, and what it asks for.
-use Rattle.std.specs.Prelude.{ℕ, Bool, false, not, ◌&&◌, ◌||◌, ◌==◌, nat_le, List, [], ◌∷◌, length, find, slice_get, Option, None, Some, is_some, unwrap_or, option_map}
+use Rattle.std.specs.Prelude.{ℕ, Bool, false, not, ◌&&◌, ◌||◌, ◌==◌, nat_le, List, [], ◌∷◌, length, find, slice_get, Option, None, Some, is_some, unwrap_or, option_map, if◌then◌else◌}
 use Rattle.std.specs.List.{list_all}
 use Rattle.std.specs.Str.{bytes_eq}
 use Rattle.irv_base.specs.Names.{Id}
 use Rattle.command_line.specs.Table.{form_of, commands, kind_of, is_needed, default_of}
 use Rattle.command_line.specs.Pieces.{Piece, pieces, files_in, values_in, fits}
-use Rattle.command_line.specs.Values.{number}
+use Rattle.command_line.specs.Values.{is_best, number}
 use Rattle.budget.specs.declared.budget.Budget.{Budget}
 use Rattle.budget.specs.declared.budget.Budget.TheVariants as budget_of
 use Rattle.command.specs.declared.plan_terms.PlanTerms.{PlanTerms}
 use Rattle.command_line.specs.declared.commands.Command.{Command}
-use Rattle.command_line.specs.declared.commands.Command.TheVariants.{Search, Tabulate, Check, Trim, Sample, Plan, Open, Audit, Report, Poll, OpenPlurality, AuditPlurality, Contests, Trial}
+use Rattle.command_line.specs.declared.commands.Command.TheVariants.{Search, SearchFewest, Tabulate, Check, Trim, Adopt, Sample, Plan, Open, Audit, Report, Poll, PollEach, OpenPlurality, AuditPlurality, Contests, Trial}
 use Rattle.command_line.specs.declared.table.Apart.{Apart}
 use Rattle.command_line.specs.declared.table.CommandName.{CommandName}
 use Rattle.command_line.specs.declared.table.CommandName.TheVariants as name
 use Rattle.command_line.specs.declared.table.OptionName.{OptionName}
-use Rattle.command_line.specs.declared.table.OptionName.TheVariants.{Contest, Workers, Nodes, Sets, Floor, Cards, Seed, Draws, Limit, Gamma, Number, Candidates, Ballots}
+use Rattle.command_line.specs.declared.table.OptionName.TheVariants.{Contest, Workers, Nodes, Sets, FewestSets, Floor, Cards, Seed, Draws, Limit, Gamma, EachGamma, Number, Candidates, Ballots}
 use Rattle.command_line.specs.declared.table.Together.{Together}
 
 -- ---- the rules
 
--- it stands at most once, and once where a line has to give it
+-- it is there at most once, and once if a line has to give it
 abbrev pub is_given_right : OptionName → List Piece → Bool
 is_given_right option pieces =
     let times = length (values_in option pieces) in
@@ -29,7 +29,7 @@ is_given_right option pieces =
 abbrev pub is_given : OptionName → List Piece → Bool
 is_given option pieces = nat_le 1 (length (values_in option pieces))
 
--- where the one is given, the other is given too
+-- if the one is given, the other is given too
 abbrev pub is_given_together : Together → List Piece → Bool
 is_given_together two pieces = not (is_given two.option pieces) || is_given two.with pieces
 
@@ -37,7 +37,7 @@ is_given_together two pieces = not (is_given two.option pieces) || is_given two.
 abbrev pub is_given_apart : Apart → List Piece → Bool
 is_given_apart two pieces = not (is_given two.option pieces && is_given two.other pieces)
 
--- each option is given right, none without the one that it asks for, and none beside one that it excludes
+-- each option is given right, none without the one that it asks for, and none together with one that it excludes
 abbrev pub are_given : List OptionName → List Together → List Apart → List Piece → Bool
 are_given options together apart pieces =
     list_all (λ option. is_given_right option pieces) options
@@ -87,11 +87,20 @@ seed pieces = unwrap_or (value Seed pieces) []
 abbrev pub given_number : OptionName → List Piece → Option ℕ
 given_number option pieces = option_map number (value option pieces)
 
--- or else the one of a line that doesn't give it
+-- or otherwise the default
 abbrev pub number_of : OptionName → List Piece → ℕ
 number_of option pieces = unwrap_or (given_number option pieces) (default_of (kind_of option))
 
--- so many sets where a line gives them, and else so many nodes
+-- the number of a text, or none where it is the word for the best one; without a text this number
+abbrev pub number_or_best : ℕ → Option (List ℕ) → Option ℕ
+number_or_best default None = Some default
+number_or_best default (Some text) = if is_best text then None else Some (number text)
+
+-- the gamma of a poll with a look after each draw, if it is the same for all assertions
+abbrev pub each_gamma : List Piece → Option ℕ
+each_gamma pieces = number_or_best (default_of (kind_of EachGamma)) (value EachGamma pieces)
+
+-- this many sets if a line gives them, and this many nodes otherwise
 abbrev pub budget_with : ℕ → Option ℕ → Budget
 budget_with nodes None = budget_of.Nodes nodes
 budget_with nodes (Some sets) = budget_of.Sets sets
@@ -99,7 +108,7 @@ budget_with nodes (Some sets) = budget_of.Sets sets
 abbrev pub budget : List Piece → Budget
 budget pieces = budget_with (number_of Nodes pieces) (given_number Sets pieces)
 
--- what clean draws are planned for, where a line gives a number of cards
+-- what clean draws are planned for, if a line gives a number of cards
 abbrev pub terms_with : List Piece → ℕ → PlanTerms
 terms_with pieces cards =
     record { cards = cards; limit = number_of Limit pieces; gamma = number_of Gamma pieces }
@@ -117,6 +126,14 @@ meaning name.Search pieces = Search (record {
   floor = number_of Floor pieces;
   plan = plan_terms pieces;
 })
+meaning name.SearchFewest pieces = SearchFewest (record {
+  ballots = file 0 pieces;
+  contest = contest pieces;
+  workers = number_of Workers pieces;
+  sets = number_of FewestSets pieces;
+  floor = number_of Floor pieces;
+  plan = plan_terms pieces;
+})
 meaning name.Tabulate pieces = Tabulate (record {
   ballots = file 0 pieces;
   contest = contest pieces;
@@ -131,6 +148,12 @@ meaning name.Check pieces = Check (record {
 meaning name.Trim pieces = Trim (record {
   ballots = file 0 pieces;
   assertions = file 1 pieces;
+  contest = contest pieces;
+  budget = budget pieces;
+})
+meaning name.Adopt pieces = Adopt (record {
+  ballots = file 0 pieces;
+  claims = file 1 pieces;
   contest = contest pieces;
   budget = budget pieces;
 })
@@ -173,6 +196,16 @@ meaning name.Poll pieces = Poll (record {
   draws = number_of Draws pieces;
   limit = number_of Limit pieces;
   gamma = number_of Gamma pieces;
+  nodes = number_of Nodes pieces;
+})
+meaning name.PollEach pieces = PollEach (record {
+  manifest = file 0 pieces;
+  assertions = file 1 pieces;
+  seen = file 2 pieces;
+  seed = seed pieces;
+  draws = number_of Draws pieces;
+  limit = number_of Limit pieces;
+  gamma = each_gamma pieces;
   nodes = number_of Nodes pieces;
 })
 meaning name.OpenPlurality pieces = OpenPlurality (record {

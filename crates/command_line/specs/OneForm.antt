@@ -15,7 +15,7 @@ use Rattle.command_line.specs.declared.table.CommandName.{CommandName}
 use Rattle.command_line.specs.declared.table.OptionName.{OptionName}
 use Rattle.command_line.specs.declared.table.OptionName.TheVariants.{Seed}
 
--- the value of an option, or no text where it isn't given
+-- the value of an option, or no text if it isn't given
 abbrev pub value_text : OptionName → List Piece → List ℕ
 value_text option pieces = unwrap_or (value option pieces) []
 

@@ -1,8 +1,8 @@
--- What the words after a command word stand for: files, and options with their values.
+-- What the words after a command word mean: files, and options with their values.
 use Rattle.std.specs.Prelude.{ℕ, Bool, false, not, ◌==◌, nat_eq, List, [], ◌∷◌, map, filter_map, find, drop, length, Option, None, Some, is_some, if◌then◌else◌, codes}
 use Rattle.std.specs.List.{list_any, starts_with, before_first, after_first}
 use Rattle.std.specs.Str.{bytes_eq}
-use Rattle.command_line.specs.Table.{text_of, kind_of}
+use Rattle.command_line.specs.Table.{text_of, kind_of, is_flag, is_same}
 use Rattle.command_line.specs.Values.{is_value}
 use Rattle.command_line.specs.declared.table.OptionName.{OptionName}
 
@@ -19,7 +19,9 @@ pub data WordSort : Type 0 where
   Dashes : WordSort
   -- it doesn't begin with a hyphen
   Plain : WordSort
-  -- `--name`, and `--name=value`, of an option of the command
+  -- `--name` of a flag of the command
+  Flagged : OptionName → WordSort
+  -- `--name`, and `--name=value`, of another option of the command
   Named : OptionName → WordSort
   Valued : OptionName → List ℕ → WordSort
   Unknown : WordSort
@@ -32,11 +34,11 @@ option_named options name = find (λ option. bytes_eq (text_of option) name) opt
 
 abbrev pub named : Option OptionName → WordSort
 named None = Unknown
-named (Some option) = Named option
+named (Some option) = if is_flag (kind_of option) then Flagged option else Named option
 
 abbrev pub valued : Option OptionName → List ℕ → WordSort
 valued None value = Unknown
-valued (Some option) value = Valued option value
+valued (Some option) value = if is_flag (kind_of option) then Unknown else Valued option value
 
 -- by what follows the two hyphens
 abbrev pub long_sort : List OptionName → List ℕ → WordSort
@@ -67,6 +69,7 @@ abbrev pub pieces_at : WordSort → List ℕ → List (List ℕ) → (Option Opt
     List Piece
 pieces_at Dashes word words more = map File words
 pieces_at Plain word words more = File word ∷ more None
+pieces_at (Flagged option) word words more = Given option [] ∷ more None
 pieces_at (Named option) word words more = more (Some option)
 pieces_at (Valued option value) word words more = Given option value ∷ more None
 pieces_at Unknown word words more = Stray ∷ more None
@@ -101,8 +104,7 @@ files_in pieces = filter_map file_in pieces
 
 abbrev pub value_in : OptionName → Piece → Option (List ℕ)
 value_in option (File name) = None
-value_in option (Given other value) =
-    if bytes_eq (text_of other) (text_of option) then Some value else None
+value_in option (Given other value) = if is_same other option then Some value else None
 value_in option Stray = None
 
 abbrev pub gives : OptionName → Piece → Bool

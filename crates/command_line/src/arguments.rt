@@ -4,10 +4,10 @@ ghost use Rattle.std.specs.List.{list_all};
 ghost use Rattle.clap.specs.Words.{first_of, rows_of, found_of};
 ghost use Rattle.command_line.specs.Table.{is_number_option};
 ghost use Rattle.command_line.specs.Pieces.{Piece, fits};
-ghost use Rattle.command_line.specs.Line.{budget, contest, given_number, number_of, plan_terms, seed};
+ghost use Rattle.command_line.specs.Line.{budget, contest, each_gamma, given_number, number_of, plan_terms, seed};
 ghost use Rattle.command_line.specs.OneForm.{IsShown, HasSeed, name_in, may_be_number, number_in};
 
-use crate::table::OptionName;
+use crate::table::{BEST, OptionName};
 use budget::Budget;
 use clap::ArgMatches;
 use command::{FileName, PlanTerms};
@@ -77,7 +77,21 @@ pub fn number(option: OptionName, matches: &ArgMatches<'_>) -> u32
     given_number(option, matches).unwrap_or(option.kind().default())
 }
 
-/// So many sets where a line gives them, and else so many nodes.
+/// The gamma of a poll with a look after each draw: the number that a line gives, or the one of a line that doesn't. There is none if it
+/// says `BEST`.
+pub fn each_gamma(matches: &ArgMatches<'_>) -> Option<u32>
+    ensures { (pieces : List Piece) → list_all fits pieces ≡ true
+        → IsShown OptionName.EachGamma pieces (rows_of (found_of matches.now))
+        → result ≡ each_gamma pieces }
+{
+    let text = text(matches, OptionName::EachGamma.text());
+    if text == BEST {
+        return None;
+    }
+    Some(number_in(text).unwrap_or(OptionName::EachGamma.kind().default()))
+}
+
+/// This many sets if a line gives them, and this many nodes otherwise.
 pub fn budget(matches: &ArgMatches<'_>) -> Budget
     ensures { (pieces : List Piece) → list_all fits pieces ≡ true
         → IsShown OptionName.Nodes pieces (rows_of (found_of matches.now))

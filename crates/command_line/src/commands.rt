@@ -6,15 +6,16 @@ ghost use Rattle.command_line.specs.Line.{is_line, are_right, pieces_of, command
 ghost use Rattle.command_line.specs.OneForm.{AreOfLine, IsMeant};
 ghost use Rattle.command_line.specs.Laws.{IsChecked};
 
-use crate::arguments::{budget, contest, file, number, plan_terms, seed};
+use crate::arguments::{budget, contest, each_gamma, file, number, plan_terms, seed};
 use crate::line::line_named;
 use crate::matches::matches_of;
 use crate::one_form::one_form;
-use crate::table::{ASSERTIONS, BALLOTS, CommandName, MANIFEST, OptionName, SEEN, SESSION};
+use crate::table::{ASSERTIONS, BALLOTS, CLAIMS, CommandName, MANIFEST, OptionName, SEEN, SESSION};
 use clap::ArgMatches;
 use command::{
-    AuditPluralityTask, AuditTask, CheckTask, ContestsTask, OpenPluralityTask, OpenTask, PlanTask,
-    PollTask, ReportTask, SampleTask, SearchTask, TabulateTask, TrialTask, TrimTask,
+    AdoptTask, AuditPluralityTask, AuditTask, CheckTask, ContestsTask, OpenPluralityTask, OpenTask,
+    PlanTask, PollEachTask, PollTask, ReportTask, SampleTask, SearchFewestTask, SearchTask,
+    TabulateTask, TrialTask, TrimTask,
 };
 use irv_base::Memory;
 use std::alloc::{AllocError, Global};
@@ -24,12 +25,16 @@ use std::alloc::{AllocError, Global};
 pub enum Command {
     /// The assertions that confirm the winner of a contest, or why there are none.
     Search(SearchTask),
-    /// The rounds of a contest, or its first tie where that leaves open who has won.
+    /// Such assertions with the fewest NENs.
+    SearchFewest(SearchFewestTask),
+    /// The rounds of a contest, or its first tie if that leaves open who has won.
     Tabulate(TabulateTask),
     /// Whether an assertion file holds of the ballots of a contest.
     Check(CheckTask),
     /// An assertion file without the claims that can go.
     Trim(TrimTask),
+    /// An assertion file with the assertions of a claims file.
+    Adopt(AdoptTask),
     /// The cards that a seed draws.
     Sample(SampleTask),
     /// How many draws a clean audit takes.
@@ -42,6 +47,8 @@ pub enum Command {
     Report(ReportTask),
     /// Whether what is on the drawn cards confirms the assertions, with no card matched to its record.
     Poll(PollTask),
+    /// The same, with a look after each draw.
+    PollEach(PollEachTask),
     /// The session of an audit of first preferences, before its first round.
     OpenPlurality(OpenPluralityTask),
     /// The session of an audit of first preferences with a round more.
@@ -60,6 +67,19 @@ fn search(alloc: Global, matches: &ArgMatches<'_>) -> Result<Command, AllocError
         contest: contest(matches),
         workers: number(OptionName::Workers, matches),
         budget: budget(matches),
+        floor: number(OptionName::Floor, matches),
+        plan: plan_terms(matches),
+    }))
+}
+
+fn search_fewest(alloc: Global, matches: &ArgMatches<'_>) -> Result<Command, AllocError>
+    ensures { IsMeant CommandName.SearchFewest (rows_of (found_of matches.now)) result }
+{
+    Ok(Command::SearchFewest(SearchFewestTask {
+        ballots: file(alloc, BALLOTS, matches)?,
+        contest: contest(matches),
+        workers: number(OptionName::Workers, matches),
+        sets: number(OptionName::FewestSets, matches),
         floor: number(OptionName::Floor, matches),
         plan: plan_terms(matches),
     }))
@@ -92,6 +112,17 @@ fn trim(alloc: Global, matches: &ArgMatches<'_>) -> Result<Command, AllocError>
     Ok(Command::Trim(TrimTask {
         ballots: file(alloc, BALLOTS, matches)?,
         assertions: file(alloc, ASSERTIONS, matches)?,
+        contest: contest(matches),
+        budget: budget(matches),
+    }))
+}
+
+fn adopt(alloc: Global, matches: &ArgMatches<'_>) -> Result<Command, AllocError>
+    ensures { IsMeant CommandName.Adopt (rows_of (found_of matches.now)) result }
+{
+    Ok(Command::Adopt(AdoptTask {
+        ballots: file(alloc, BALLOTS, matches)?,
+        claims: file(alloc, CLAIMS, matches)?,
         contest: contest(matches),
         budget: budget(matches),
     }))
@@ -173,6 +204,22 @@ fn poll(alloc: Global, matches: &ArgMatches<'_>) -> Result<Command, AllocError>
     }))
 }
 
+fn poll_each(alloc: Global, matches: &ArgMatches<'_>) -> Result<Command, AllocError>
+    requires { AreOfLine CommandName.PollEach (rows_of (found_of matches.now)) }
+    ensures { IsMeant CommandName.PollEach (rows_of (found_of matches.now)) result }
+{
+    Ok(Command::PollEach(PollEachTask {
+        manifest: file(alloc, MANIFEST, matches)?,
+        assertions: file(alloc, ASSERTIONS, matches)?,
+        seen: file(alloc, SEEN, matches)?,
+        seed: seed(matches),
+        draws: number(OptionName::Draws, matches),
+        limit: number(OptionName::Limit, matches),
+        gamma: each_gamma(matches),
+        nodes: number(OptionName::Nodes, matches),
+    }))
+}
+
 fn open_plurality(alloc: Global, matches: &ArgMatches<'_>) -> Result<Command, AllocError>
     requires { AreOfLine CommandName.OpenPlurality (rows_of (found_of matches.now)) }
     ensures { IsMeant CommandName.OpenPlurality (rows_of (found_of matches.now)) result }
@@ -239,15 +286,18 @@ fn read_command(
 {
     match name {
         CommandName::Search => search(alloc, matches),
+        CommandName::SearchFewest => search_fewest(alloc, matches),
         CommandName::Tabulate => tabulate(alloc, matches),
         CommandName::Check => check(alloc, matches),
         CommandName::Trim => trim(alloc, matches),
+        CommandName::Adopt => adopt(alloc, matches),
         CommandName::Sample => sample(alloc, matches),
         CommandName::Plan => plan(alloc, matches),
         CommandName::Open => open_session(alloc, matches),
         CommandName::Audit => audit(alloc, matches),
         CommandName::Report => report(alloc, matches),
         CommandName::Poll => poll(alloc, matches),
+        CommandName::PollEach => poll_each(alloc, matches),
         CommandName::OpenPlurality => open_plurality(alloc, matches),
         CommandName::AuditPlurality => audit_plurality(alloc, matches),
         CommandName::Contests => contests(alloc, matches),
@@ -267,11 +317,11 @@ fn read_line(alloc: Global, name: CommandName, words: &[String]) -> Result<Comma
     }
 }
 
-/// The command that the words ask for. There is none exactly where they are no line.
+/// The command that the words ask for. There is none exactly if they are no line.
 ///
 /// # Errors
 ///
-/// `Memory` alone, and only for words that are a line.
+/// Only `Memory`, and only for words that are a line.
 pub fn read(alloc: Global, words: &[String]) -> Result<Option<Command>, Memory>
     ensures read { IfOk result (λ command. command ≡ command_of (texts words.now)) }
     // Files have names, and numbers are within their limits.

@@ -1,7 +1,7 @@
 //! The laws of lines: each holds of all words, and has no code.
 ghost use Rattle.command_line.specs.Laws.{LinesHaveMeanings, LinesAreOfOne, LinesAreChecked, Examples, Searches, Samples, Trials, Meanings, SetsMeanings, NoLines};
 
-/// Words are a line exactly where they have a meaning.
+/// Words are a line exactly if they have a meaning.
 pub fn lines_have_meanings()
     ensures { LinesHaveMeanings }
 {}

@@ -20,7 +20,7 @@ fn times_given(option: OptionName, pieces: Pieces<'_>) -> usize
     pieces.filter(|piece| piece.gives(option)).count()
 }
 
-// Whether an option stands at most once, and once where a line has to give it.
+// Whether an option is there at most once, and once if a line has to give it.
 fn is_given_right(option: OptionName, pieces: Pieces<'_>) -> bool
     ensures { result ≡ is_given_right option pieces.entry }
 {

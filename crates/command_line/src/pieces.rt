@@ -1,8 +1,8 @@
-// What the words after a command word stand for: files, and options with their values.
+// What the words after a command word mean: files, and options with their values.
 ghost use Rattle.std.specs.Prelude.{◌≡◌, None, option_map};
 ghost use Rattle.std.specs.Iterator.{YieldsFirstBy, item_count};
 ghost use Rattle.command_line.specs.Words.{texts};
-ghost use Rattle.command_line.specs.Pieces.{begins_with_hyphen, option_named, long_sort, word_sort, value_piece, pieces, is_file, file_in, gives, value_in, fits};
+ghost use Rattle.command_line.specs.Pieces.{begins_with_hyphen, option_named, named, valued, long_sort, word_sort, value_piece, pieces, is_file, file_in, gives, value_in, fits};
 ghost use Rattle.command_line.specs.Views.{piece, sort};
 
 use crate::table::OptionName;
@@ -25,6 +25,7 @@ pub enum Piece<'w> {
 enum WordSort<'w> {
     Dashes,
     Plain,
+    Flagged(OptionName),
     Named(OptionName),
     Valued(OptionName, &'w str),
     Unknown,
@@ -42,18 +43,44 @@ fn option_named(options: &[OptionName], name: &str) -> Option<OptionName>
     options.iter().copied().find(|option| option.text() == name)
 }
 
+// `--name`, of this option if it is one.
+fn named<'w>(option: Option<OptionName>) -> WordSort<'w>
+    ensures { sort result ≡ named option }
+{
+    match option {
+        Some(option) => {
+            if option.kind().is_flag() {
+                WordSort::Flagged(option)
+            } else {
+                WordSort::Named(option)
+            }
+        }
+        None => WordSort::Unknown,
+    }
+}
+
+// `--name=value`, of this option if it is one.
+fn valued<'w>(option: Option<OptionName>, value: &'w str) -> WordSort<'w>
+    ensures { sort result ≡ valued option value.now }
+{
+    match option {
+        Some(option) => {
+            if option.kind().is_flag() {
+                WordSort::Unknown
+            } else {
+                WordSort::Valued(option, value)
+            }
+        }
+        None => WordSort::Unknown,
+    }
+}
+
 fn long_sort<'w>(options: &[OptionName], long: &'w str) -> WordSort<'w>
     ensures { sort result ≡ long_sort options.now long.now }
 {
     match long.split_once('=') {
-        Some((name, value)) => match option_named(options, name) {
-            Some(option) => WordSort::Valued(option, value),
-            None => WordSort::Unknown,
-        },
-        None => match option_named(options, long) {
-            Some(option) => WordSort::Named(option),
-            None => WordSort::Unknown,
-        },
+        Some((name, value)) => valued(option_named(options, name), value),
+        None => named(option_named(options, long)),
     }
 }
 
@@ -111,7 +138,7 @@ impl<'w> Piece<'w> {
         ensures { option_map (λ value. value.now) result ≡ value_in option (piece self.entry) }
     {
         match self {
-            Piece::Given(other, value) if other.text() == option.text() => Some(value),
+            Piece::Given(other, value) if other.is_same(option) => Some(value),
             _ => None,
         }
     }
@@ -182,6 +209,7 @@ impl<'w> Iterator for Pieces<'w> {
                 Some(Piece::File(self.words.next()?.as_str()))
             }
             WordSort::Plain => Some(Piece::File(word)),
+            WordSort::Flagged(option) => Some(Piece::Given(option, "")),
             WordSort::Named(option) => match self.words.next() {
                 Some(value) => Some(value_piece(option, value.as_str())),
                 None => Some(Piece::Stray),

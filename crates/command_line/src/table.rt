@@ -1,7 +1,7 @@
 // The commands and the options: a line for each.
 ghost use Rattle.std.specs.Prelude.{◌≡◌, [], map};
-ghost use Rattle.command_line.specs.Table.{form_of, text_of, kind_of, is_needed, default_of};
-ghost use Rattle.command_line.specs.declared.table.ValueKind.TheVariants.{Number, FreeNumber};
+ghost use Rattle.command_line.specs.Table.{form_of, text_of, kind_of, is_flag, is_needed, is_same, default_of};
+ghost use Rattle.command_line.specs.declared.table.ValueKind.TheVariants.{Number, FreeNumber, NumberOrBest};
 
 use budget::{DEFAULT_NODES, MOST_NODES, MOST_SETS};
 use command::{
@@ -12,18 +12,23 @@ use irv_base::{
     FEWEST_CANDIDATES, GREATEST_GAMMA, GREATEST_LIMIT, MOST_CANDIDATES, MOST_CARDS, MOST_DRAWS,
     MOST_RECORDS, MOST_WORKERS,
 };
+use km_risk::GREATEST_EACH_GAMMA;
 
 /// The commands that there are.
 #[derive(Clone, Copy, Debug, PartialEq, Eq)]
 pub enum CommandName {
     /// `search`: the assertions that confirm a winner.
     Search,
+    /// `search` with `--fewest`: such assertions with the fewest NENs.
+    SearchFewest,
     /// `tabulate`: the rounds of a contest.
     Tabulate,
     /// `check`: whether an assertion file holds.
     Check,
     /// `trim`: an assertion file without the claims that can go.
     Trim,
+    /// `adopt`: an assertion file with the assertions of a claims file.
+    Adopt,
     /// `sample`: the cards that a seed draws.
     Sample,
     /// `plan`: how many draws a clean audit takes.
@@ -36,6 +41,8 @@ pub enum CommandName {
     Report,
     /// `poll`: whether what is on the drawn cards confirms the assertions, with no card matched to its record.
     Poll,
+    /// `poll` with `--each`: the same, with a look after each draw.
+    PollEach,
     /// `plurality` of two files: the session of an audit of first preferences, before its first round.
     OpenPlurality,
     /// `plurality` of four files: that session with a round more.
@@ -57,6 +64,10 @@ pub enum OptionName {
     Nodes,
     /// The most sets of candidates that may count, in place of suffixes.
     Sets,
+    /// The most sets that may stand in a search for the fewest NENs. Its name is that of the sets.
+    FewestSets,
+    /// That a search is for the fewest NENs.
+    Fewest,
     /// The least margin of a search, in votes.
     Floor,
     /// How many cards the manifest will have, for an assertion file that carries its clean draws.
@@ -69,6 +80,10 @@ pub enum OptionName {
     Limit,
     /// The gamma, in thousandths.
     Gamma,
+    /// The gamma of a poll with a look after each draw, in thousandths or as a word. Its name is that of the gamma.
+    EachGamma,
+    /// That a poll looks after each draw.
+    Each,
     /// The number that a trial is drawn from.
     Number,
     /// How many candidates a trial has.
@@ -84,7 +99,7 @@ pub enum ValueKind {
     Id,
     /// A seed. A line has to give it.
     Seed,
-    /// A number within these limits. A line may leave it out where there is a number for that case.
+    /// A number within these limits. A line may omit it if it has a default.
     Number {
         /// The least number.
         least: u32,
@@ -100,14 +115,25 @@ pub enum ValueKind {
         /// The greatest number.
         most: u32,
     },
+    /// A number within these limits, or the word `BEST`. A line may leave it out.
+    NumberOrBest {
+        /// The least number.
+        least: u32,
+        /// The greatest number.
+        most: u32,
+        /// The number of a line that doesn't give one.
+        default: u32,
+    },
+    /// Nothing: the option stands by itself. A line has to give it.
+    Flag,
 }
 
-/// An option that a line may give only where it gives another one too.
+/// An option that a line may give only if it gives another one too.
 #[derive(Clone, Copy, Debug, PartialEq, Eq)]
 pub struct Together {
     /// The option.
     pub option: OptionName,
-    /// The one that it has to stand with.
+    /// The one that it needs.
     pub with: OptionName,
 }
 
@@ -137,17 +163,20 @@ pub struct Form<'f> {
 }
 
 /// All commands.
-pub const COMMANDS: [CommandName; 14] = [
+pub const COMMANDS: [CommandName; 17] = [
     CommandName::Search,
+    CommandName::SearchFewest,
     CommandName::Tabulate,
     CommandName::Check,
     CommandName::Trim,
+    CommandName::Adopt,
     CommandName::Sample,
     CommandName::Plan,
     CommandName::Open,
     CommandName::Audit,
     CommandName::Report,
     CommandName::Poll,
+    CommandName::PollEach,
     CommandName::OpenPlurality,
     CommandName::AuditPlurality,
     CommandName::Contests,
@@ -160,6 +189,9 @@ pub const BALLOTS: &str = "ballots";
 /// The name of an assertion file.
 pub const ASSERTIONS: &str = "assertions";
 
+/// The name of a claims file.
+pub const CLAIMS: &str = "claims";
+
 /// The name of a manifest.
 pub const MANIFEST: &str = "manifest";
 
@@ -168,6 +200,9 @@ pub const SESSION: &str = "session";
 
 /// The name of a file of seen cards.
 pub const SEEN: &str = "seen";
+
+/// The word for the gamma that fits the margin of each assertion.
+pub const BEST: &str = "best";
 
 // A budget is of nodes or of sets.
 const BUDGETS: [Apart; 1] = [Apart {
@@ -186,6 +221,17 @@ const SEARCH_OPTIONS: [OptionName; 8] = [
     OptionName::Gamma,
 ];
 
+const SEARCH_FEWEST_OPTIONS: [OptionName; 8] = [
+    OptionName::Contest,
+    OptionName::Workers,
+    OptionName::FewestSets,
+    OptionName::Floor,
+    OptionName::Cards,
+    OptionName::Limit,
+    OptionName::Gamma,
+    OptionName::Fewest,
+];
+
 // Without a number of cards no draws are planned.
 const SEARCH_TOGETHER: [Together; 2] = [
     Together {
@@ -198,7 +244,7 @@ const SEARCH_TOGETHER: [Together; 2] = [
     },
 ];
 
-// Of a check, and of a trim.
+// For a check, for a trim, and for an adoption.
 const CHECK_OPTIONS: [OptionName; 3] = [OptionName::Contest, OptionName::Nodes, OptionName::Sets];
 
 const OPEN_OPTIONS: [OptionName; 6] = [
@@ -218,6 +264,15 @@ const POLL_OPTIONS: [OptionName; 5] = [
     OptionName::Limit,
     OptionName::Gamma,
     OptionName::Nodes,
+];
+
+const POLL_EACH_OPTIONS: [OptionName; 6] = [
+    OptionName::Seed,
+    OptionName::Draws,
+    OptionName::Limit,
+    OptionName::EachGamma,
+    OptionName::Nodes,
+    OptionName::Each,
 ];
 
 const OPEN_PLURALITY_OPTIONS: [OptionName; 4] = [
@@ -299,6 +354,9 @@ impl CommandName {
             CommandName::Search => Form::of("search", &[BALLOTS], &SEARCH_OPTIONS)
                 .together(&SEARCH_TOGETHER)
                 .apart(&BUDGETS),
+            CommandName::SearchFewest => {
+                Form::of("search", &[BALLOTS], &SEARCH_FEWEST_OPTIONS).together(&SEARCH_TOGETHER)
+            }
             CommandName::Tabulate => Form::of(
                 "tabulate",
                 &[BALLOTS],
@@ -309,6 +367,9 @@ impl CommandName {
             }
             CommandName::Trim => {
                 Form::of("trim", &[BALLOTS, ASSERTIONS], &CHECK_OPTIONS).apart(&BUDGETS)
+            }
+            CommandName::Adopt => {
+                Form::of("adopt", &[BALLOTS, CLAIMS], &CHECK_OPTIONS).apart(&BUDGETS)
             }
             CommandName::Sample => {
                 Form::of(
@@ -333,6 +394,9 @@ impl CommandName {
             .apart(&BUDGETS),
             CommandName::Report => Form::of("report", &[SESSION], &[]),
             CommandName::Poll => Form::of("poll", &[MANIFEST, ASSERTIONS, SEEN], &POLL_OPTIONS),
+            CommandName::PollEach => {
+                Form::of("poll", &[MANIFEST, ASSERTIONS, SEEN], &POLL_EACH_OPTIONS)
+            }
             CommandName::OpenPlurality => {
                 Form::of("plurality", &[BALLOTS, MANIFEST], &OPEN_PLURALITY_OPTIONS)
             }
@@ -365,6 +429,16 @@ fn free_number(least: u32, most: u32) -> ValueKind
     ValueKind::FreeNumber { least, most }
 }
 
+fn number_or_best(least: u32, most: u32, default: u32) -> ValueKind
+    ensures { result ≡ NumberOrBest least most default }
+{
+    ValueKind::NumberOrBest {
+        least,
+        most,
+        default,
+    }
+}
+
 impl OptionName {
     /// The option's name, without the hyphens.
     pub fn text<'t>(self) -> &'t str
@@ -374,13 +448,15 @@ impl OptionName {
             OptionName::Contest => "contest",
             OptionName::Workers => "workers",
             OptionName::Nodes => "nodes",
-            OptionName::Sets => "sets",
+            OptionName::Sets | OptionName::FewestSets => "sets",
+            OptionName::Fewest => "fewest",
             OptionName::Floor => "floor",
             OptionName::Cards => "cards",
             OptionName::Seed => "seed",
             OptionName::Draws => "draws",
             OptionName::Limit => "limit",
-            OptionName::Gamma => "gamma",
+            OptionName::Gamma | OptionName::EachGamma => "gamma",
+            OptionName::Each => "each",
             OptionName::Number => "number",
             OptionName::Candidates => "candidates",
             OptionName::Ballots => "ballots",
@@ -396,12 +472,16 @@ impl OptionName {
             OptionName::Workers => number(1, MOST_WORKERS, Some(DEFAULT_WORKERS)),
             OptionName::Nodes => number(1, MOST_NODES, Some(DEFAULT_NODES)),
             OptionName::Sets => free_number(1, MOST_SETS),
+            OptionName::FewestSets => number(1, MOST_SETS, Some(MOST_SETS)),
+            OptionName::Fewest => ValueKind::Flag,
             OptionName::Floor => number(1, MOST_FLOOR, Some(DEFAULT_FLOOR)),
             OptionName::Cards => free_number(1, MOST_CARDS),
             OptionName::Seed => ValueKind::Seed,
             OptionName::Draws => number(1, MOST_DRAWS, None),
             OptionName::Limit => number(1, GREATEST_LIMIT, Some(DEFAULT_LIMIT)),
             OptionName::Gamma => number(1, GREATEST_GAMMA, Some(DEFAULT_GAMMA)),
+            OptionName::EachGamma => number_or_best(1, GREATEST_EACH_GAMMA, DEFAULT_GAMMA),
+            OptionName::Each => ValueKind::Flag,
             OptionName::Number => number(0, MOST_TRIAL_NUMBER, None),
             OptionName::Candidates => {
                 number(FEWEST_CANDIDATES, MOST_CANDIDATES, Some(DEFAULT_CANDIDATES))
@@ -409,18 +489,32 @@ impl OptionName {
             OptionName::Ballots => number(1, MOST_RECORDS, Some(DEFAULT_BALLOTS)),
         }
     }
+
+    /// Whether it is the other option. Two options may have one name.
+    pub fn is_same(self, other: OptionName) -> bool
+        ensures { result ≡ is_same self other }
+    {
+        self == other
+    }
 }
 
 impl ValueKind {
+    /// Whether the option stands by itself.
+    pub fn is_flag(self) -> bool
+        ensures { result ≡ is_flag self }
+    {
+        matches!(self, ValueKind::Flag)
+    }
+
     /// Whether a line has to give a value of this kind.
     pub fn is_needed(self) -> bool
         ensures { result ≡ is_needed self }
     {
         match self {
             ValueKind::Id => false,
-            ValueKind::Seed => true,
+            ValueKind::Seed | ValueKind::Flag => true,
             ValueKind::Number { default, .. } => default.is_none(),
-            ValueKind::FreeNumber { .. } => false,
+            ValueKind::FreeNumber { .. } | ValueKind::NumberOrBest { .. } => false,
         }
     }
 
@@ -430,6 +524,7 @@ impl ValueKind {
     {
         match self {
             ValueKind::Number { default, .. } => default.unwrap_or(0),
+            ValueKind::NumberOrBest { default, .. } => default,
             _ => 0,
         }
     }

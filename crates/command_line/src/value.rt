@@ -4,7 +4,7 @@ ghost use Rattle.std.specs.Char.{is_ascii_digit};
 ghost use Rattle.std.specs.List.{list_all};
 ghost use Rattle.command_line.specs.Values.{is_number, is_number_within, number, is_value};
 
-use crate::table::ValueKind;
+use crate::table::{BEST, ValueKind};
 use irv_base::{MOST_NUMBER_DIGITS, Name};
 use sampler::Seed;
 
@@ -44,6 +44,10 @@ impl ValueKind {
             ValueKind::Seed => Seed::read(text).is_ok(),
             ValueKind::Number { least, most, .. } => is_number_within(least, most, text),
             ValueKind::FreeNumber { least, most } => is_number_within(least, most, text),
+            ValueKind::NumberOrBest { least, most, .. } => {
+                text == BEST || is_number_within(least, most, text)
+            }
+            ValueKind::Flag => text.is_empty(),
         }
     }
 }

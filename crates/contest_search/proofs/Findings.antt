@@ -129,7 +129,7 @@ votes-le records (Nen w l rest) = count_by-le-length (λ ranking. is_some_of (to
 margin-le : (records : List (List ℕ)) (a : Assertion) → true_margin records a ≤ length records
 margin-le records a = let le = votes-le records a in omega (arith, le)
 
-true-margin : (records : List (List ℕ)) (a : Assertion) → is_true records a ≡ true → IsMargin (length records) (true_margin records a)
+pub true-margin : (records : List (List ℕ)) (a : Assertion) → is_true records a ≡ true → IsMargin (length records) (true_margin records a)
 true-margin records a holds =
     let more = ltb-true (votes_against records a) (votes_for records a) holds in
     record { some = omega (arith, more); most = margin-le records a }
@@ -203,7 +203,7 @@ module _ (ballots : BallotFile) (t : Tabulated) (x : Certificate) (two : 1 < can
         records = length ballots.rankings;
         winner = winner;
         margin = margin i;
-        order = x.order;
+        order = Some x.order;
         claims = claims i;
         plan = None;
       }

@@ -7,3 +7,7 @@ pub mod Nodes
 pub mod SetsNeeded
 pub mod Plans
 pub mod Accepted
+pub mod FewestFound
+pub mod FewestAccepted
+pub mod FewestSets
+pub mod FewestNeeded

@@ -1,4 +1,4 @@
--- How many nodes or sets a search needs, and where its budget is spent.
+-- How many nodes or sets a search needs, and when its budget is spent.
 use Rattle.std.specs.Prelude.{◌≡◌, ◌⊎◌, ◌≤◌, ◌<◌, ℕ, max, List, Option, None, Some, ⊤}
 use Rattle.budget.specs.declared.budget.Budget.{Budget}
 use Rattle.budget.specs.declared.budget.Budget.TheVariants.{Nodes, Sets}
@@ -25,7 +25,7 @@ certificate_nodes ballots winner c =
     max (cover_count (candidate_count ballots) (low_of ballots) (margin_of ballots winner) c)
     (order_count_of ballots (margin_of ballots winner) (order_of ballots winner) c)
 
--- the most nodes that a search may need for c, where this is the tabulated order
+-- the most nodes that a search may need for c, if this is the tabulated order
 abbrev pub nodes_for : BallotFile → List ℕ → ℕ → ℕ → ℕ
 nodes_for ballots tabulated winner c =
     max (work_for (candidate_count ballots) ballots.rankings tabulated c)
@@ -44,7 +44,7 @@ IsInBudget ballots winner (Nodes nodes) =
     (c : ℕ) → IsOther ballots winner c → certificate_nodes ballots winner c ≤ nodes
 IsInBudget ballots winner (Sets sets) = sets_of ballots winner ≤ sets
 
--- by sets a contest that isn't decided is told so where the budget suffices, or where the order that a search starts with has hardness 0
+-- by sets a contest that isn't decided is reported so if the budget is enough, or if the order that a search starts with has hardness 0
 pub record IsToldBySets (sets : ℕ) (ballots : BallotFile) : Type 0 where
   pub winner : ℕ
   pub won : IsWon ballots winner
@@ -71,7 +71,7 @@ pub record IsCertificateSpent (nodes : ℕ) (ballots : BallotFile)
   pub best : margin ≡ margin_of ballots winner
 
 -- a search is spent at this candidate, in the race or then in the certificate, with an order that elects another candidate than the
--- winner, no harder than the first that is tried, and not of hardness 0, which would tell that the contest isn't decided
+-- winner, no harder than the first that is tried, and not of hardness 0, which would show that the contest isn't decided
 pub record IsSpent (nodes : ℕ) (ballots : BallotFile) (last : ℕ) (order : List ℕ)
     (margin : ℕ) : Type 0 where
   pub winner : ℕ
@@ -84,7 +84,7 @@ pub record IsSpent (nodes : ℕ) (ballots : BallotFile) (last : ℕ) (order : Li
   pub within : margin ≤ first_bound (candidate_count ballots) ballots.rankings won.order
   pub some : 1 ≤ margin
 
--- more sets are needed than there are; beside it the order that a search starts with, and its hardness, which isn't 0
+-- more sets are needed than there are; with it comes the order that a search starts with, and its hardness, which isn't 0
 pub record IsSpentBySets (sets : ℕ) (ballots : BallotFile) (order : List ℕ) (margin : ℕ)
     : Type 0 where
   pub winner : ℕ
@@ -94,7 +94,7 @@ pub record IsSpentBySets (sets : ℕ) (ballots : BallotFile) (order : List ℕ) 
   pub hardness : margin ≡ first_bound (candidate_count ballots) ballots.rankings won.order
   pub some : 1 ≤ margin
 
--- nodes are told as nodes, and sets as sets
+-- nodes are printed as nodes, and sets as sets
 abbrev pub IsSpentIn : Budget → BallotFile → ℕ → List ℕ → ℕ → Type 0
 IsSpentIn (Nodes nodes) ballots last order margin = IsSpent nodes ballots last order margin
 IsSpentIn (Sets sets) ballots last order margin = ⊥

@@ -26,7 +26,7 @@ certificate_of ballots winner order = record {
   records = length ballots.rankings;
   winner = winner;
   margin = margin_of ballots winner;
-  order = order;
+  order = Some order;
   claims = certificate_claims (candidate_count ballots) ballots.rankings winner;
   plan = None;
 }

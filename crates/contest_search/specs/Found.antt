@@ -1,5 +1,5 @@
 -- What a search of a contest finds.
-use Rattle.std.specs.Prelude.{◌≡◌, ◌≤◌, ◌<◌, ℕ, List, length, None, All, IsTrue, ⊤}
+use Rattle.std.specs.Prelude.{◌≡◌, ◌≤◌, ◌<◌, ℕ, List, length, Some, None, All, IsTrue, ⊤}
 use Rattle.budget.specs.declared.budget.Budget.{Budget}
 use Rattle.irv_base.specs.Orders.{is_order}
 use Rattle.set_tallies.specs.Bags.{Kept, IsOf}
@@ -58,7 +58,7 @@ content_of ballots winner certificate = record {
   records = length ballots.rankings;
   winner = winner;
   margin = certificate.margin;
-  order = certificate.order;
+  order = Some certificate.order;
   claims = certificate.claims.items;
   plan = None;
 }

@@ -31,7 +31,7 @@ SetsAreFew =
     (ballots : BallotFile) (winner : ℕ) → IsWon ballots winner →
     sets_of ballots winner ≤ 2 ^ candidate_count ballots - 3
 
--- A search by sets is spent exactly where more sets are needed than the budget has, and the order that it starts with isn't of hardness 0.
+-- A search by sets is spent exactly if more sets are needed than the budget has, and the order that it starts with isn't of hardness 0.
 abbrev pub SpentBySetsExactly : Type 0
 SpentBySetsExactly =
     (sets : ℕ) (ballots : BallotFile) (found : Found) (winner : ℕ) (won : IsWon ballots winner) →

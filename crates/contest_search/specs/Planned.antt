@@ -4,7 +4,7 @@ use Rattle.irv_base.specs.declared.limits.TheConstants.{GREATEST_GAMMA, GREATEST
 use Rattle.assertion_file.specs.Content.{Content, Plan, margins_of}
 use Rattle.km_risk.specs.Clean.{clean_draws}
 
--- for claims of these margins, over so many cards, with gamma in thousandths and the risk limit in millionths
+-- for claims of these margins, over this many cards, with gamma in thousandths and the risk limit in millionths
 abbrev pub plan_over : ℕ → ℕ → ℕ → List ℕ → Plan
 plan_over cards gamma limit margins = record {
   cards = cards;
@@ -21,7 +21,7 @@ plan_of cards gamma limit file =
 abbrev pub planned : ℕ → ℕ → ℕ → Content → Content
 planned cards gamma limit file = record file { plan = Some (plan_of cards gamma limit file) }
 
--- a contest of so many records can be planned for
+-- a contest of this many records can be planned for
 pub record CanBePlanned (cards gamma limit records : ℕ) : Type 0 where
   pub some_cards : records ≤ cards
   pub most_cards : cards ≤ MOST_CARDS

@@ -6,6 +6,7 @@ ghost use Rattle.irv_base.specs.declared.limits.TheConstants.{MOST_WORKERS};
 ghost use Rattle.budget.specs.declared.budget.Budget.{Budget as Told};
 ghost use Rattle.contest_search.specs.Budget.{IsTold};
 ghost use Rattle.set_tallies.specs.declared.bag.TheConstants.{ALWAYS_SUMMED};
+ghost use Rattle.contest_search.specs.Fewest.{FoundFewestIn};
 ghost use Rattle.contest_search.specs.Found.{FoundIn, IsCounted, IsBestOf, IsPrintable, content_of};
 
 use assertion_file::{AssertionFile, Parts};
@@ -33,15 +34,15 @@ pub enum Found {
         tied: CandSet,
         votes: u32,
     },
-    /// More nodes than the budget has are needed for the orders that elect `last`. Beside it an order that elects another candidate than
-    /// the winner, no harder than the one that a search starts with, and its hardness.
+    /// More nodes than the budget has are needed for the orders that elect `last`. With it comes an order that elects another candidate
+    /// than the winner, no harder than the one that a search starts with, and its hardness.
     Spent {
         last: Candidate,
         order: Order,
         margin: u32,
     },
-    /// More sets of candidates are needed than the budget has, which are so many. Beside it the order that a search starts with, and its
-    /// hardness.
+    /// More sets of candidates are needed than the budget has, which is this many. With it comes the order that a search starts with, and
+    /// its hardness.
     SpentSets {
         sets: u32,
         order: Order,
@@ -49,8 +50,8 @@ pub enum Found {
     },
 }
 
-/// What a search of the contest finds, by up to so many workers, within a budget: of nodes for each piece of the race and for each candidate
-/// who didn't win, or of sets for all orders together.
+/// What a search of the contest finds, by up to this many workers, within a budget: of nodes for each piece of the race and for each
+/// candidate who didn't win, or of sets for all orders together.
 pub fn find<R: AllocGlobal + Threads + Sync, G: Gate + Sync>(
     rt: &R,
     votes: &Votes,
@@ -120,8 +121,9 @@ fn sets_of(
     }
 }
 
-// How many of the workers race for the margin of a contest of so many candidates. Up to `ALWAYS_SUMMED` candidates all do, since they read one
-// table. With more each would count the rows that it asks for, and go on to the end of its piece once another one is out of budget.
+// How many of the workers race for the margin of a contest of this many candidates. Up to `ALWAYS_SUMMED` candidates all do, since they
+// read one table. With more, each would count the rows that it asks for, and go on to the end of its piece once another one is out of
+// budget.
 fn racers(candidates: usize, workers: u32) -> u32
     ensures table { candidates ≤ ALWAYS_SUMMED → result ≡ workers }
     ensures rows { ALWAYS_SUMMED < candidates → result ≡ 1 }
@@ -167,12 +169,13 @@ fn race_of<R: AllocGlobal + Threads + Sync, G: Gate + Sync>(
     }
 }
 
-// The first tie of a contest that isn't decided. It has one.
-fn tie_of(votes: &Votes, tabulated: &Tabulated) -> Found
+/// The first tie of a contest that isn't decided. It has one.
+pub(crate) fn tie_of(votes: &Votes, tabulated: &Tabulated) -> Found
     requires tabulation { IsTabulation (candidate_count votes.now) (votes.now).rankings
         tabulated.now }
     requires undecided { IsUndecided votes.now }
-    ensures { (budget : Told) → IsTold budget votes.now → FoundIn budget votes.now result }
+    ensures found { (budget : Told) → IsTold budget votes.now → FoundIn budget votes.now result }
+    ensures fewest { (sets : ℕ) → IsTold (Told.Sets sets) votes.now → FoundFewestIn sets votes.now result }
 {
     match tabulated.tie() {
         Some(FirstTie { round, tied, tally }) => Found::Tie {
@@ -235,8 +238,8 @@ fn certificate_of<R: AllocGlobal + Threads + Sync>(
     }
 }
 
-// The assertion file of the contest, with the certificate's claims, margin and order.
-fn file_of(
+/// The assertion file of the contest, with the certificate's claims, margin and order.
+pub(crate) fn file_of(
     alloc: Global,
     votes: &Votes,
     winner: Candidate,
@@ -258,7 +261,7 @@ fn file_of(
         records,
         winner,
         margin,
-        order,
+        order: Some(order),
         claims,
         plan: None,
     }))

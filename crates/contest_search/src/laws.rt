@@ -1,4 +1,5 @@
 //! The laws of a search: each holds of every value that it names, and has no code.
+ghost use Rattle.contest_search.specs.FewestLaws.{FewestIsAccepted, FewestSetsAreFew, PlannedFewestIsAccepted, SpentFewestExactly};
 ghost use Rattle.contest_search.specs.Laws.{FoundIsAccepted, NodesAreFew, PlannedIsAccepted, SetsAreFew, SpentBySetsExactly};
 
 /// No search needs more nodes for a candidate than twice the factorial of the number of the other candidates.
@@ -11,8 +12,8 @@ pub fn sets_are_few()
     ensures { SetsAreFew }
 {}
 
-/// A search by sets is spent exactly where more of them are needed than the budget has, and the order that it starts with isn't of
-/// hardness 0.
+/// A search by sets is spent exactly if more of them are needed than the budget has, and the order that it starts with isn't of hardness
+/// 0.
 pub fn spent_by_sets_exactly()
     ensures { SpentBySetsExactly }
 {}
@@ -25,4 +26,24 @@ pub fn found_is_accepted()
 /// So is it with the draws of a clean audit.
 pub fn planned_is_accepted()
     ensures { PlannedIsAccepted }
+{}
+
+/// No search for the fewest NENs needs more sets than there are, less three.
+pub fn fewest_sets_are_few()
+    ensures { FewestSetsAreFew }
+{}
+
+/// If the contest is decided, it is spent exactly if more of them are needed than the budget has.
+pub fn spent_fewest_exactly()
+    ensures { SpentFewestExactly }
+{}
+
+/// What it finds holds of the ballots, reads back from its text, and is accepted by the checker.
+pub fn fewest_is_accepted()
+    ensures { FewestIsAccepted }
+{}
+
+/// So is it with the draws of a clean audit.
+pub fn planned_fewest_is_accepted()
+    ensures { PlannedFewestIsAccepted }
 {}

@@ -2,8 +2,10 @@
 #![tactic(auto)]
 
 mod draws;
+mod fewest_found;
 mod found;
 pub mod laws;
 
 pub use draws::planned;
+pub use fewest_found::find_fewest;
 pub use found::{Found, find};

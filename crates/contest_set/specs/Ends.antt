@@ -1,5 +1,5 @@
--- How the audit of a contest ends, by its own ballots and by what is seen of the cards for it: what a search finds, and then one round
--- of the draws that all contests share.
+-- How the audit of a contest ends, by its own ballots and by what is seen of the cards for it: what a search finds, and then one round of
+-- the draws that all contests share.
 use Rattle.std.specs.Prelude.{◌≡◌, ◌≤◌, ◌*◌, ℕ, nat_le, Bool, List, zip, length, None}
 use Rattle.std.specs.List.{AllZip, list_all}
 use Rattle.irv_base.specs.declared.limits.TheConstants.{GREATEST_GAMMA, GREATEST_LIMIT, MOST_DRAWS, MOST_WORKERS}
@@ -42,7 +42,7 @@ are_confirmed limit risks = list_all (λ risk. nat_le risk (limit * MILLIONTH)) 
 abbrev pub Finds : SharedTerms → BallotFile → Found → Type 0
 Finds terms ballots found = FoundIn (Nodes terms.nodes) ballots found
 
--- the round of all draws over the claims of a file, where this is recorded of the cards, and this is seen
+-- the round of all draws over the claims of a file, if this is recorded of the cards, and this is seen
 abbrev pub round_over : SharedTerms → List Recorded → List Entry → Content → Round
 round_over terms recorded seen file =
     let cards : ℕ = length recorded in

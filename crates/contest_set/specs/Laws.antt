@@ -60,7 +60,7 @@ SeenAlone =
 
 -- ---- how a contest ends
 
--- it ends as it does among the others where it is audited alone, by any number of workers
+-- it ends among the others as it does if it is audited alone, by any number of workers
 abbrev pub EndsAlone : Type 0
 EndsAlone =
     (batches : Batches) (terms : SharedTerms) (workers : ℕ) (list : List BallotFile)
@@ -95,7 +95,7 @@ OneEnd =
 
 -- ---- the risk limit of each contest by itself
 
--- a contest that is signed off is counted, at any number of draws up to the most, where what is seen for it of the drawn cards is true of
+-- a contest that is signed off is counted, at any number of draws up to the most, if what is seen for it of the drawn cards is true of
 -- their actual rankings
 abbrev pub EndIsCounted : Type 0
 EndIsCounted =
@@ -110,8 +110,8 @@ EndIsCounted =
     × MayBeSignedOff terms.limit terms.gamma (audited file) (linked_of batches ballots) actual
     (drawn most)
 
--- of all sequences of n cards, those are at most limit millionths on which the audit of a contest that was read may be signed off, where
--- the actual rankings of the cards may elect another candidate
+-- of all sequences of n cards, those are at most limit millionths on which the audit of a contest that was read may be signed off, if the
+-- actual rankings of the cards may elect another candidate
 abbrev pub EachRiskLimit : Type 0
 EachRiskLimit =
     (terms : SharedTerms) (n : ℕ) (bytes : List ℕ) (asked : Option Id) (batches : Batches)

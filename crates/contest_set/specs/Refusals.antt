@@ -79,7 +79,7 @@ module _ (batches : Batches) (terms : SharedTerms) (list : List BallotFile)
 
   -- ---- on the way, where each ballot has a card
 
-  -- of the contest at this place
+  -- for the contest at this place
   abbrev pub HasResult : ℕ → Result ContestEnd SetFault → Type 0
   HasResult place result =
       (ballots : BallotFile) (entries : List Entry) → slice_get list place ≡ Some ballots →

@@ -1,5 +1,5 @@
--- What a seen file of several contests says, or which rule it breaks first, and in which record. A record has the id of a card, that
--- of a contest, and what a record of a seen file of one contest has behind its card.
+-- What a seen file of several contests says, or which rule it breaks first, and in which record. A record has the id of a card, that of a
+-- contest, and then what a record of a seen file of one contest has after its card.
 use Rattle.std.specs.Prelude.{ℕ, List, [], ◌∷◌, find, filter, map, Option, Some, None, Result, Ok, Err}
 use Rattle.csv_rows.specs.Fields.{numbered_records}
 use Rattle.csv_rows.specs.Rows.{Fields}

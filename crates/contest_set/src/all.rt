@@ -34,7 +34,7 @@ fn see_cards(alloc: Global, m: &Manifest, list: &[Ballots]) -> Result<(), SetFau
     Ok(())
 }
 
-// A place for the end of each of so many contests. It holds an `Err` before the contest is looked at.
+// A place for the end of each of this many contests. It holds an `Err` before the contest is looked at.
 fn places(alloc: Global, contests: usize) -> Result<Vec<Result<ContestEnd, SetFault>>, Memory>
     ensures { IfOk result (λ places. length places.items ≡ contests) }
 {
@@ -125,13 +125,13 @@ fn joined(
     Ok(ends)
 }
 
-/// The audit of all contests on one sample of cards: how each of them ends, in their order, where this is seen of the cards for each.
+/// The audit of all contests on one sample of cards: how each of them ends, in their order, if this is seen of the cards for each.
 ///
-/// It is refused where a ballot has no card, at the first such ballot of the first contest with one. Else it is refused where a contest
-/// that has a winner lacks a record of a drawn card, at the first such contest and draw. A contest that is tied, or spent, hinders no
-/// other.
+/// It is refused if a ballot has no card, at the first such ballot of the first contest with one. Otherwise it is refused if a contest
+/// that has a winner lacks a record of a drawn card, at the first such contest and draw. A contest that is tied, or spent, doesn't stop
+/// the others.
 ///
-/// Each of at most so many workers takes a share of the contests, one after the other. The gate is called with the contest's place in
+/// Each of at most this many workers takes a share of the contests, one after the other. The gate is called with the contest's place in
 /// the file, from 0, in place of the worker's number.
 pub fn audit_all<R: AllocGlobal + Threads + Sync, G: Gate + Sync>(
     rt: &R,

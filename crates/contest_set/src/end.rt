@@ -13,14 +13,14 @@ pub enum ContestEnd {
         tied: CandSet,
         tally: u32,
     },
-    /// More nodes than are allowed are needed for the orders that elect `last`. Beside it an order that elects another candidate than the
-    /// winner, no harder than the one that a search starts with, and its hardness.
+    /// More nodes than are allowed are needed for the orders that elect `last`. With it comes an order that elects another candidate than
+    /// the winner, no harder than the one that a search starts with, and its hardness.
     Spent {
         last: Candidate,
         order: Order,
         margin: u32,
     },
-    /// The contest has a winner. Beside the assertions that confirm this there are the counts and the printed risk of each, in units of
+    /// The contest has a winner. Besides the assertions that confirm this there are the counts and the printed risk of each, in units of
     /// 10^-18, over all draws, and whether each risk is within the limit.
     Audited {
         file: AssertionFile,

@@ -11,7 +11,7 @@ pub fn seen_alone()
     ensures { SeenAlone }
 {}
 
-/// A contest ends as it does where it is audited alone, by any number of workers: by its own ballots, and by what is seen for it.
+/// A contest ends as it does if it is audited alone, by any number of workers: by its own ballots, and by what is seen for it.
 pub fn ends_alone()
     ensures { EndsAlone }
 {}

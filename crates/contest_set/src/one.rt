@@ -58,7 +58,7 @@ fn round_of(
     ensures refused { IfErr result
         (Refuses (without_record terms.now.seed (length linked.now) seen.now terms.now.draws)) }
 {
-    // Asked for what its contract tells: there are at most as many cards as a manifest has.
+    // Asks for what its contract says: there are at most as many cards as a manifest has.
     let _cards = linked.cards();
     let margins = margins_of(alloc, file.claims())?;
     first_round(
@@ -88,7 +88,7 @@ fn audited(
     requires found { Finds terms.now ballots.now (Certificate file) }
     ensures { IsOne m.now terms.now ballots.now seen.now place result }
 {
-    // Asked for what their contracts tell: there is a card, and no more ballots than cards.
+    // Asks for what their contracts say: there is a card, and no more ballots than cards.
     let _cards = m.cards();
     let _ids = ballots.ids();
     let linked = match link(alloc, m, ballots) {

@@ -14,7 +14,7 @@ use manifest::Manifest;
 use seen_file::{SeenCards, SeenFault};
 use std::alloc::Global;
 
-// Nothing is seen for each of so many contests.
+// Nothing is seen for each of this many contests.
 fn nothing_seen(alloc: Global, contests: usize) -> Result<Vec<SeenCards>, Memory>
     ensures { IfOk result (λ seen. seen.items ≡ replicate contests []) }
 {
@@ -40,12 +40,12 @@ fn put(seen: &mut Vec<SeenCards>, told: Told) -> Result<(), Memory>
 /// Reads a seen file whose records are of several contests: what is seen of the cards for each contest, in their order.
 ///
 /// Each record is the id of a card, that of a contest, and then `ballot` with candidates' ids in order of preference, as in a ballot
-/// file, or `missing`. Spaces and tabs round a field are taken off. A record whose only field is empty then is passed over and has no
-/// number. A byte order mark at the front is taken off.
+/// file, or `missing`. Spaces and tabs around a field are removed. If the only field of a record is then empty, it is skipped and has no
+/// number. A byte order mark at the front is removed.
 ///
-/// It is refused by the first rule that a record breaks, in this order: V1 where it has fewer than three fields, another word, or a
-/// field that isn't blank behind `missing`; V2 where its card isn't in the manifest; V6 where its contest isn't among them; V3 where its
-/// card stood before with the same contest; V5 where a preference isn't a candidate of its contest.
+/// It is refused by the first rule that a record breaks, in this order: V1 if it has fewer than three fields, another word, or a field
+/// that isn't blank after `missing`; V2 if its card isn't in the manifest; V6 if its contest isn't among them; V3 if an earlier record
+/// has its card with the same contest; V5 if a preference isn't a candidate of its contest.
 pub fn read_seen_by(
     alloc: Global,
     bytes: &[u8],

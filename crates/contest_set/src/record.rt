@@ -14,7 +14,7 @@ use csv_rows::Fields;
 use manifest::Manifest;
 use seen_file::{SeenCards, VRule, card_of, entry_of_card, fields_behind};
 
-/// What a record tells: the place of its contest, from 0, the number of its card, and what is seen of the card.
+/// What a record says: the place of its contest, from 0, the number of its card, and what is seen of the card.
 #[derive(Clone, Copy)]
 pub struct Told {
     pub place: usize,
@@ -31,7 +31,7 @@ fn contest_place(list: &[Ballots], id: &[u8]) -> Option<usize>
         .position(|ballots| ballots.contest().bytes() == id)
 }
 
-/// What a record tells, or the first rule that it breaks, after what is seen so far for each contest.
+/// What a record says, or the first rule that it breaks, after what is seen so far for each contest.
 pub fn told_of(
     m: &Manifest,
     list: &[Ballots],

@@ -1,9 +1,12 @@
 // What a search finds of contests that were worked by hand: a certificate, a tie, a budget that is spent.
 use crate::contests::{ONE, TWO, ZERO};
+use assertion_file::AssertionFile;
+use assertions::Assertion;
 use ballot_reader::read_ballots;
 use budget::Budget;
-use contest_search::{Found, find};
+use contest_search::{Found, find, find_fewest};
 use desk::NoGate;
+use irv_base::Candidate;
 
 // Five ballots 1, four 2,3 and three 3,2.
 const THREE_CANDIDATES: &[u8] = b"1
@@ -22,6 +25,14 @@ Contest,1,3,1,2,3
 1,a_12,3,2
 ";
 
+// Whether the file gives this order.
+fn is_order(file: &AssertionFile, order: &[Candidate]) -> bool {
+    match file.order() {
+        Some(found) => found.candidates() == order,
+        None => false,
+    }
+}
+
 #[test]
 fn three_candidates_are_certified(rt: HostRuntime) {
     let ballots = read_ballots(rt.alloc(), THREE_CANDIDATES, None).expect(&rt, "ballots");
@@ -32,7 +43,7 @@ fn three_candidates_are_certified(rt: HostRuntime) {
             assert!(rt; file.margin() == 1);
             assert!(rt; file.records() == 12);
             assert!(rt; file.claims().len() == 3);
-            assert!(rt; file.order().candidates() == [ONE, ZERO, TWO].as_slice());
+            assert!(rt; is_order(&file, [ONE, ZERO, TWO].as_slice()));
         }
         _ => assert!(rt; false),
     }
@@ -56,7 +67,7 @@ fn three_candidates_by_sets(rt: HostRuntime) {
         Ok(Found::Certificate(file)) => {
             assert!(rt; file.margin() == 1);
             assert!(rt; file.claims().len() == 3);
-            assert!(rt; file.order().candidates() == [ONE, ZERO, TWO].as_slice());
+            assert!(rt; is_order(&file, [ONE, ZERO, TWO].as_slice()));
         }
         _ => assert!(rt; false),
     }
@@ -96,4 +107,65 @@ fn one_against_one_is_a_tie(rt: HostRuntime) {
         })
     );
     assert!(rt; is_first);
+}
+
+// Eight ballots of four candidates: the certificate has seven assertions, and four are enough.
+const FOUR_CANDIDATES: &[u8] = b"1
+Contest,1,4,1,2,3,4
+1,a_1,2,3
+1,a_2,1
+1,a_3,3,4
+1,a_4,1,2,3
+1,a_5,4,1
+1,a_6,4,2,3,1
+1,a_7,3,1,2
+1,a_8,3
+";
+
+#[test]
+fn one_neb_and_one_nen_are_the_fewest(rt: HostRuntime) {
+    let ballots = read_ballots(rt.alloc(), THREE_CANDIDATES, None).expect(&rt, "ballots");
+    let votes = ballots.votes(rt.alloc()).expect(&rt, "votes");
+    match find_fewest(&rt, &votes, 1, 3) {
+        Ok(Found::Certificate(file)) => {
+            assert!(rt; file.winner() == ONE);
+            assert!(rt; file.margin() == 1);
+            assert!(rt; is_order(&file, [ONE, ZERO, TWO].as_slice()));
+            assert!(rt; file.claims().len() == 2);
+            assert!(rt; file.claims()[0].assertion == Assertion::Neb { w: ONE, l: TWO });
+            assert!(rt; file.claims()[1].margin == 2);
+        }
+        _ => assert!(rt; false),
+    }
+}
+
+#[test]
+fn four_of_seven_are_the_fewest(rt: HostRuntime) {
+    let ballots = read_ballots(rt.alloc(), FOUR_CANDIDATES, None).expect(&rt, "ballots");
+    let votes = ballots.votes(rt.alloc()).expect(&rt, "votes");
+    match find_fewest(&rt, &votes, 1, 8) {
+        Ok(Found::Certificate(file)) => {
+            assert!(rt; file.winner() == TWO);
+            assert!(rt; file.margin() == 1);
+            assert!(rt; file.claims().len() == 4);
+        }
+        _ => assert!(rt; false),
+    }
+}
+
+#[test]
+fn seven_sets_are_too_few_for_the_fewest(rt: HostRuntime) {
+    let ballots = read_ballots(rt.alloc(), FOUR_CANDIDATES, None).expect(&rt, "ballots");
+    let votes = ballots.votes(rt.alloc()).expect(&rt, "votes");
+    let found = find_fewest(&rt, &votes, 1, 7);
+    assert!(rt; matches!(&found, Ok(Found::SpentSets { sets: 7, .. })));
+}
+
+#[test]
+fn one_against_one_has_no_fewest(rt: HostRuntime) {
+    let file = b"1\nContest,7,2,A,B\n7,b_1,A\n7,b_2,B\n".as_slice();
+    let ballots = read_ballots(rt.alloc(), file, None).expect(&rt, "ballots");
+    let votes = ballots.votes(rt.alloc()).expect(&rt, "votes");
+    let found = find_fewest(&rt, &votes, 1, 5);
+    assert!(rt; matches!(&found, Ok(Found::Tie { .. })));
 }

@@ -3,6 +3,8 @@
 #![tactic(auto)]
 
 #[cfg(test)]
+mod adoption_tests;
+#[cfg(test)]
 mod assertions_tests;
 #[cfg(test)]
 mod bound_search_tests;

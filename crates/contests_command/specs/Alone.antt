@@ -16,7 +16,7 @@ abbrev pub is_ballot_of : Id → Fields → Bool
 is_ballot_of contest [] = false
 is_ballot_of contest (of ∷ rest) = is_same of contest
 
--- behind n contest records
+-- after n contest records
 abbrev pub alone_behind : Id → Option ℕ → List Fields → List Fields
 alone_behind contest None rows = []
 alone_behind contest (Some n) rows =

@@ -56,7 +56,7 @@ module _ (task : ContestsTask) (list : List BallotFile) (batches : Batches)
     pub lacks : FirstLacksRecord batches (terms_of task) list seen contest card k
     pub refused : verdict ≡ Refused task.seen (no_record_text card k)
 
-  -- each contest ends by itself, and that is told
+  -- each contest ends by itself, and that is printed
   pub record IsTold (verdict : Verdict) : Type 0 where
     pub placed : first_without_card_of_all batches list ≡ None
     pub ends : List ContestEnd

@@ -3,7 +3,7 @@ use Rattle.std.specs.Prelude.{ℕ, List, [], ◌∷◌, codes}
 use Rattle.ballot_reader.specs.Ballots.{BallotFile}
 use Rattle.irv_base.specs.Names.{Id}
 
--- a contest with this id, whose ballots don't matter to what is told
+-- a contest with this id, whose ballots don't matter to what is printed
 abbrev pub of_two_candidates : Id → BallotFile
 of_two_candidates id = record {
   contest = id;

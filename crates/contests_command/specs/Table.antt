@@ -1,4 +1,4 @@
--- What an audit of all contests tells: a block of lines for each contest, and whether all are signed off.
+-- What an audit of all contests prints: a block of lines for each contest, and whether all are signed off.
 use Rattle.std.specs.Prelude.{◌≡◌, ◌<◌, ℕ, Bool, false, nat_le, List, [], ◌∷◌, ◌++◌, ◌*◌, length, IsTrue, codes, ⊤}
 use Rattle.std.specs.Fmt.{decimal}
 use Rattle.std.specs.List.{list_all}
@@ -24,7 +24,7 @@ claim_line assertion margin counts risk confirmed =
     assertion ++ codes " margin " ++ decimal margin ++ codes " counts " ++ counts_text counts
     ++ codes " risk " ++ risk_text risk ++ state_end confirmed
 
--- by these ids; it is confirmed where the risk is at most limit millionths
+-- by these ids; it is confirmed if the risk is at most limit millionths
 abbrev pub line_of : List Id → ℕ → Claim → Counts → ℕ → List ℕ
 line_of ids limit claim counts risk =
     claim_line (assertion_text ids claim.assertion) claim.margin counts risk

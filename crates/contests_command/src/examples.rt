@@ -1,4 +1,4 @@
-//! Worked examples: what is told of contests without a winner, computed by the checker.
+//! Worked examples: what is printed of contests without a winner, computed by the checker.
 ghost use Rattle.std.specs.Prelude.{◌≡◌, ◌∷◌, ◌++◌, [], codes};
 ghost use Rattle.contest_set.specs.declared.end.ContestEnd.TheVariants.{Spent, Tied};
 ghost use Rattle.contests_command.specs.Examples as examples;

@@ -7,12 +7,12 @@ pub fn said_alone()
     ensures { SaidAlone }
 {}
 
-/// Where the nodes suffice for a contest, its budget isn't spent.
+/// If the nodes are enough for a contest, its budget isn't spent.
 pub fn enough_nodes()
     ensures { EnoughNodes }
 {}
 
-/// Where the nodes suffice for each contest, an audit of all contests comes to one end.
+/// If the nodes are enough for each contest, an audit of all contests has one end.
 pub fn audits_once()
     ensures { AuditsOnce }
 {}

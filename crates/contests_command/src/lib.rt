@@ -1,4 +1,4 @@
-//! The command that audits all contests of a ballot file on one sample of cards, and tells how each of them ends.
+//! The command that audits all contests of a ballot file on one sample of cards, and prints how each of them ends.
 #![tactic(auto)]
 
 pub mod contests;

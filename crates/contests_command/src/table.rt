@@ -1,4 +1,4 @@
-// What an audit of all contests tells.
+// What an audit of all contests prints.
 ghost use Rattle.std.specs.Prelude.{◌≡◌, ◌≤◌, ◌++◌, length, codes, IfOk, IsTrue, string_bytes};
 ghost use Rattle.std.specs.Fmt.{decimal};
 ghost use Rattle.std.specs.List.{AllZip};
@@ -108,7 +108,7 @@ fn add_winner(text: &mut String, records: u32, winner: &str, margin: u32) -> Res
     writeln!(text, "records {records}\nwinner {winner}\nmargin {margin}")
 }
 
-// Adds what the audit of a contest tells of its winner and of each claim.
+// Adds what the audit of a contest says of its winner and of each claim.
 fn add_audited(
     alloc: Global,
     text: &mut String,

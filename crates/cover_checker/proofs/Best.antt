@@ -1,5 +1,6 @@
 -- The margin of a file that holds is the best.
-use Rattle.std.proofs.Common.{◌≡◌, ℕ, ◌≤◌, List, pos, ◌<ℤ◌, arith, ◌∙◌, Ok, refl}
+use Rattle.std.proofs.Common.{◌≡◌, ℕ, ◌≤◌, List, Option, Some, None, pos, ◌<ℤ◌, arith, ◌∙◌, Ok}
+use Rattle.std.specs.Prelude.{IfSome}
 use Rattle.std.proofs.lemmas.Int.{ints}
 use Rattle.std.proofs.lemmas.List.Elements.{All-contains}
 use Rattle.irv_base.proofs.Members.{Member}
@@ -15,9 +16,10 @@ use Rattle.budget.specs.declared.budget.Budget.{Budget}
 use Rattle.ballot_reader.specs.Ballots.{BallotFile}
 use Rattle.assertion_file.specs.Content.{Content, IsSound, IsSoundClaim, candidate_count}
 use Rattle.cover_checker.specs.Checks.{IsAnswer}
-use Rattle.cover_checker.specs.Holds.{Holds}
+use Rattle.cover_checker.specs.Holds.{Holds, IsHardest}
 use Rattle.cover_checker.specs.declared.checked.Checked.TheVariants.{Accepted}
-use Rattle.cover_checker.proofs.Held.{accepted_iff_holds}
+use Rattle.cover_checker.proofs.Exactly.{accepted-covered}
+use Rattle.cover_checker.proofs.Held.{accepted-held, held-accepted}
 use Rattle.cover_checker.proofs.Nothing.{HasItsMargin}
 
 pos-same : (m k : ℕ) → pos m ≡ pos k → m ≡ k
@@ -34,12 +36,12 @@ module _ (ballots : BallotFile) (file : Content) (sound : IsSound file) (h : Hol
   abbrev best : ℕ
   best = best_margin (candidate_count file) file.winner (low (candidate_count file) ballots.rankings)
 
-  best-reached : best ≤ file.margin
-  best-reached =
+  best-reached : (order : List ℕ) → IsHardest ballots file order → best ≤ file.margin
+  best-reached order h =
       let (whole, (c, ne, elects)) = h.alternative in
-      let le : best ≤ low (candidate_count file) ballots.rankings file.order =
-      best-le (candidate_count file) file.winner (low (candidate_count file) ballots.rankings) file.order
-      (alternative-member (candidate_count file) file.winner c file.order whole ne elects) in
+      let le : best ≤ low (candidate_count file) ballots.rankings order =
+      best-le (candidate_count file) file.winner (low (candidate_count file) ballots.rankings) order
+      (alternative-member (candidate_count file) file.winner c order whole ne elects) in
       omega (arith, le, h.hardest)
 
   margin-reached : file.margin ≤ best
@@ -56,9 +58,38 @@ module _ (ballots : BallotFile) (file : Content) (sound : IsSound file) (h : Hol
             let above = All-contains (λ claim. file.margin ≤ claim.margin) file.claims claim h.smallest k in
             omega (arith, its, below, above, e)
 
-  held_is_best : file.margin ≡ best
-  held_is_best = omega (arith, best-reached, margin-reached)
+  held_is_best : IfSome file.order (λ _. file.margin ≡ best)
+  held_is_best = by file.order h.best where
+    by : (order : Option (List ℕ)) → IfSome order (IsHardest ballots file) → IfSome order (λ _. file.margin ≡ best)
+    by None h = tt
+    by (Some order) h = omega (arith, best-reached order h, margin-reached)
 
 pub accepted_margin_is_best : (budget : Budget) (ballots : BallotFile) (file : Content) → IsSound file → IsAnswer budget ballots file (Ok Accepted) →
-    file.margin ≡ best_margin (candidate_count file) file.winner (low (candidate_count file) ballots.rankings)
-accepted_margin_is_best budget ballots file sound answer = held_is_best ballots file sound ((accepted_iff_holds budget ballots file Accepted sound answer).0 refl)
+    IfSome file.order (λ _. file.margin ≡ best_margin (candidate_count file) file.winner (low (candidate_count file) ballots.rankings))
+accepted_margin_is_best budget ballots file sound answer = held_is_best ballots file sound (accepted-held budget ballots file sound answer)
+
+pub accepted_margin_is_reached : (budget : Budget) (ballots : BallotFile) (file : Content) → IsSound file → IsAnswer budget ballots file (Ok Accepted) →
+    file.margin ≤ best_margin (candidate_count file) file.winner (low (candidate_count file) ballots.rankings)
+accepted_margin_is_reached budget ballots file sound answer = margin-reached ballots file sound (accepted-held budget ballots file sound answer)
+
+-- ---- without its order
+
+without-order : (ballots : BallotFile) (file : Content) → Holds ballots file → Holds ballots (record file { order = None })
+without-order ballots file h = record {
+  contest = h.contest;
+  candidates = h.candidates;
+  records = h.records;
+  winner = h.winner;
+  margins = h.margins;
+  cover = h.cover;
+  reached = h.reached;
+  smallest = h.smallest;
+  best = tt;
+  draws = h.draws;
+}
+
+pub accepted_without_order : (budget : Budget) (ballots : BallotFile) (file : Content) → IsSound file → IsAnswer budget ballots file (Ok Accepted) →
+    IsAnswer budget ballots (record file { order = None }) (Ok Accepted)
+accepted_without_order budget ballots file sound answer =
+    held-accepted budget ballots (record file { order = None }) (without-order ballots file (accepted-held budget ballots file sound answer))
+    (accepted-covered budget ballots file sound answer)

@@ -1,5 +1,6 @@
 -- The canonical certificate of ballots is accepted.
 use Rattle.std.proofs.Common.{◌≡◌, ◌≢◌, ℕ, ◌<◌, ◌≤◌, true, false, not, ◌&&◌, ◌==◌, nat_lt, List, [], ◌∷◌, length, map, count_by, Option, Some, None, Ok, Contains, refl, sym, ap, subst, arith, ◌∙◌, inl, inr, lt-ltb, le-ltb, eqb-true}
+use Rattle.std.specs.Prelude.{IfSome}
 use Rattle.std.specs.List.{list_any}
 use Rattle.std.proofs.lemmas.Bool.{cases_Bool, cases_lt}
 use Rattle.budget.specs.declared.budget.Budget.{Budget}
@@ -8,7 +9,7 @@ use Rattle.irv_base.proofs.Members.{Member, member-map, from_map, contains-from_
 use Rattle.assertions.specs.declared.assertion.Assertion.{Assertion}
 use Rattle.assertions.specs.declared.assertion.Claim.{Claim}
 use Rattle.assertions.specs.Assertions.{is_true, true_margin}
-use Rattle.assertions.specs.Certificate.{certificate_assertions, claim_of, cover_count}
+use Rattle.assertions.specs.Certificate.{certificate_assertions, certificate_order, claim_of, cover_count}
 use Rattle.assertions.specs.Hardness.{low, best_margin}
 use Rattle.assertions.specs.Refutation.{refutes}
 use Rattle.assertions.specs.Suffixes.{IsAlternative, alternative_orders, parts_ending}
@@ -30,7 +31,7 @@ use Rattle.assertion_file.specs.Content.{Content, IsSound, candidate_count}
 use Rattle.cover_checker.specs.Covers.{stands, covered_is, standing_order, standing_count, standing_sets, IsEnough, IsEnoughBelow}
 use Rattle.cover_checker.specs.Findings.{assertions_of}
 use Rattle.cover_checker.specs.Checks.{IsAnswer}
-use Rattle.cover_checker.specs.Holds.{Holds, IsCertificateOf}
+use Rattle.cover_checker.specs.Holds.{Holds, IsCertificateOf, IsHardest}
 use Rattle.cover_checker.specs.declared.cover.Verdict.TheVariants.{Covered}
 use Rattle.cover_checker.specs.declared.checked.Checked.TheVariants.{Accepted}
 use Rattle.cover_checker.proofs.Held.{assertion_in, all-from_members, refuting_claim, held-accepted}
@@ -118,8 +119,7 @@ module _ (ballots : BallotFile) (file : Content) (sound : IsSound file) (is : Is
         cover = cover;
         reached = reached (certificate_has_best (candidate_count file) file.winner ballots.rankings sound.winner (omega (arith, sound.fewest)) some_best);
         smallest = all-from_members (λ claim. file.margin ≤ claim.margin) file.claims smallest;
-        alternative = from_alternative (candidate_count file) file.winner file.order found.0;
-        hardest = omega (arith, eqb-true (low (candidate_count file) ballots.rankings file.order) file.margin found.1);
+        best = best file.order is.order;
         draws = is.draws;
       }
     where
@@ -151,10 +151,17 @@ module _ (ballots : BallotFile) (file : Content) (sound : IsSound file) (is : Is
           let le : least_of ≤ true_margin ballots.rankings a = certificate-le (candidate_count file) file.winner ballots.rankings a k in
           subst (λ claim. file.margin ≤ claim.margin) e (omega (arith, le, is.margin))
 
-      found : Member file.order (alternative_orders (candidate_count file) file.winner) ×
-          ((low (candidate_count file) ballots.rankings file.order == file.margin) ≡ true)
-      found = from_find (λ order. low (candidate_count file) ballots.rankings order == file.margin) file.order
-          (alternative_orders (candidate_count file) file.winner) is.order
+      best : (order : Option (List ℕ)) →
+          certificate_order (candidate_count file) file.winner (low (candidate_count file) ballots.rankings) file.margin ≡ order →
+          IfSome order (IsHardest ballots file)
+      best None e = tt
+      best (Some order) e =
+          let found = from_find (λ order. low (candidate_count file) ballots.rankings order == file.margin) order
+          (alternative_orders (candidate_count file) file.winner) e in
+          record {
+            alternative = from_alternative (candidate_count file) file.winner order found.0;
+            hardest = omega (arith, eqb-true (low (candidate_count file) ballots.rankings order) file.margin found.1);
+          }
 
 pub certificate_is_accepted : (budget : Budget) (ballots : BallotFile) (file : Content) → IsSound file → IsCertificateOf ballots file →
     IsEnoughBelow budget (candidate_count file) file.winner ballots.rankings file.margin → IsAnswer budget ballots file (Ok Accepted)

@@ -14,7 +14,7 @@ use Rattle.budget.specs.declared.budget.Budget.{Budget}
 use Rattle.ballot_reader.specs.Ballots.{BallotFile}
 use Rattle.assertion_file.specs.Content.{Content, Plan, IsSound, candidate_count}
 use Rattle.cover_checker.specs.Covers.{IsEnough, verdict_on, standing_order}
-use Rattle.cover_checker.specs.Findings.{Answer, is_about, assertions_of, has_other_margin, other_margin_from, unless_covered, uncovered, smallest_margin, elects, other_winner, other_margin, other_smallest, elected, harder, refuted_by, are_same_draws, other_draws_from, other_draws}
+use Rattle.cover_checker.specs.Findings.{Answer, is_about, assertions_of, has_other_margin, other_margin_from, unless_covered, uncovered, smallest_margin, elects, other_winner, other_margin, other_smallest, elected, elected_by, harder, harder_than, refuted_by, are_same_draws, other_draws_from, other_draws}
 use Rattle.cover_checker.specs.Draws.{clean_draws_of}
 use Rattle.cover_checker.specs.Checks.{Judges, IsAnswer, checked_is, first_found}
 use Rattle.cover_checker.specs.declared.cover.Verdict.{Verdict}
@@ -93,13 +93,25 @@ margins-never records at (claim ∷ claims) fault h = go (has_other_margin recor
   go true rest k = cc
   go false rest k = rest k
 
-harder-never : (records : List (List ℕ)) (file : Content) → NeverFails (harder records file)
-harder-never records file fault h = go (nat_lt file.margin (low (candidate_count file) records file.order))
-    (refuter (candidate_count file) records file.order) h where
-      go : (b : Bool) (o : Option Assertion) → (if b then refuted_by (low (candidate_count file) records file.order) o else None) ≡ Some (Err fault) → ⊥
+elected-never : (file : Content) → NeverFails (elected file)
+elected-never file = by file.order where
+  by : (order : Option (List ℕ)) → NeverFails (option_and_then (elected_by file) order)
+  by None fault h = cc
+  by (Some order) fault h = when-never (elects order file.winner) NotAlternative fault h
+
+than-never : (records : List (List ℕ)) (file : Content) (order : List ℕ) → NeverFails (harder_than records file order)
+than-never records file order fault h = go (nat_lt file.margin (low (candidate_count file) records order))
+    (refuter (candidate_count file) records order) h where
+      go : (b : Bool) (o : Option Assertion) → (if b then refuted_by (low (candidate_count file) records order) o else None) ≡ Some (Err fault) → ⊥
       go true None k = cc
       go true (Some a) k = cc
       go false o k = cc
+
+harder-never : (records : List (List ℕ)) (file : Content) → NeverFails (harder records file)
+harder-never records file = by file.order where
+  by : (order : Option (List ℕ)) → NeverFails (option_and_then (harder_than records file) order)
+  by None fault h = cc
+  by (Some order) fault h = than-never records file order fault h
 
 draws-from-never : (plan : Plan) (at : ℕ) (claims : List Claim) (draws : List (Option ℕ)) → NeverFails (other_draws_from plan at claims draws)
 draws-from-never plan at [] draws fault h = cc
@@ -146,7 +158,7 @@ module _ (budget : Budget) (ballots : BallotFile) (file : Content) (fault : Chec
       let c = from_failed (uncovered budget file) rest-cover fault (uncovered-never budget file enough) b in
       let d = from_failed (other_smallest file) rest-smallest fault
       (unless-never (smallest_margin file == file.margin) (NotLeast (smallest_margin file))) c in
-      let e = from_failed (elected file) rest-elected fault (when-never (elects file.order file.winner) NotAlternative) d in
+      let e = from_failed (elected file) rest-elected fault (elected-never file) d in
       let f = from_failed (harder records file) rest-harder fault (harder-never records file) e in
       let g : Ok Accepted ≡ Err fault = from_failed (other_draws file) [] fault (draws-never file) f in
       cc

@@ -1,5 +1,6 @@
 -- A file is accepted exactly where it holds, and its margin is then the best.
 use Rattle.std.proofs.Common.{◌≡◌, ◌↔◌, ℕ, ◌<◌, ◌≤◌, true, false, ◌==◌, List, [], ◌∷◌, length, map, Option, Some, None, Result, Ok, Err, All, Contains, MatchBool, refl, sym, ap, subst, arith, ◌∙◌, ne_eqb, inl, inr, ◌⊎◌}
+use Rattle.std.specs.Prelude.{IfSome}
 use Rattle.std.specs.List.{list_any}
 use Rattle.std.proofs.lemmas.Bool.{cases_Bool, eqb-false}
 use Rattle.std.proofs.lemmas.List.Elements.{All-nil, All-cons, All-contains}
@@ -23,7 +24,7 @@ use Rattle.cover_checker.specs.Covers.{covered_is}
 use Rattle.cover_checker.specs.Outcomes.{IsWinner}
 use Rattle.cover_checker.specs.Findings.{Answer, is_about, assertions_of, unless_covered, uncovered, smallest_margin, elects, other_winner, other_margin, other_smallest, elected, harder, other_draws}
 use Rattle.cover_checker.specs.Checks.{Judges, IsAnswer, checked_is, findings, first_found}
-use Rattle.cover_checker.specs.Holds.{Holds}
+use Rattle.cover_checker.specs.Holds.{Holds, IsHardest}
 use Rattle.cover_checker.specs.declared.cover.Verdict.{Verdict}
 use Rattle.cover_checker.specs.declared.cover.Verdict.TheVariants.{Covered}
 use Rattle.cover_checker.specs.declared.cover.CoverFault.{CoverFault}
@@ -59,8 +60,8 @@ record Facts (budget : Budget) (records : List (List ℕ)) (file : Content) (win
   margins : All (HasItsMargin records) file.claims
   covered : covered_is (candidate_count file) file.winner (assertions_of file) budget ≡ Ok Covered
   smallest : smallest_margin file ≡ file.margin
-  other : elects file.order file.winner ≡ false
-  hardest : low (candidate_count file) records file.order ≤ file.margin
+  other : IfSome file.order (λ order. elects order file.winner ≡ false)
+  hardest : IfSome file.order (λ order. low (candidate_count file) records order ≤ file.margin)
   draws : other_draws file ≡ None
 
 module _ (budget : Budget) (records : List (List ℕ)) (file : Content) (winner : ℕ) where
@@ -131,6 +132,10 @@ alternative-other : (n winner : ℕ) (order : List ℕ) → IsAlternative n winn
 alternative-other n winner order (h, (c, ne, (before, e))) = ap (λ order. elects order winner) e ∙ elects-last before c winner ∙ ne_eqb c winner ne
 
 -- ---- a file that holds
+by-order : {P Q : List ℕ → Type 0} (order : Option (List ℕ)) → IfSome order P → ((order : List ℕ) → P order → Q order) → IfSome order Q
+by-order None h by = tt
+by-order (Some order) h by = by order h
+
 module _ (ballots : BallotFile) (file : Content) where
   -- the claims refute each alternative order
   pub held-covers : Holds ballots file → covers (candidate_count file) file.winner (assertions_of file) ≡ true
@@ -158,8 +163,8 @@ module _ (ballots : BallotFile) (file : Content) where
     margins = h.margins;
     covered = covered;
     smallest = held-smallest h;
-    other = alternative-other (candidate_count file) file.winner file.order h.alternative;
-    hardest = h.hardest;
+    other = by-order file.order h.best (λ order best. alternative-other (candidate_count file) file.winner order best.alternative);
+    hardest = by-order file.order h.best (λ order best. best.hardest);
     draws = none-draws file h.draws;
   }
 
@@ -183,11 +188,19 @@ module _ (ballots : BallotFile) (file : Content) where
         smallest = all-from_members (λ claim. file.margin ≤ claim.margin) file.claims (λ claim m.
             let le : smallest_margin file ≤ claim.margin = least-member claim.margin (map margin_in file.claims) (member-map margin_in m) in
             omega (arith, le, f.smallest));
-        alternative = other-alternative (candidate_count file) file.winner file.order (omega (arith, two)) sound.order f.other;
-        hardest = f.hardest;
+        best = best file.order sound.order f.other f.hardest;
         draws = draws-none file sound.plan f.draws;
       }
     where
+      best : (order : Option (List ℕ)) → IfSome order (λ order. is_order (candidate_count file) order ≡ true) →
+          IfSome order (λ order. elects order file.winner ≡ false) →
+          IfSome order (λ order. low (candidate_count file) ballots.rankings order ≤ file.margin) → IfSome order (IsHardest ballots file)
+      best None whole other hardest = tt
+      best (Some order) whole other hardest = record {
+        alternative = other-alternative (candidate_count file) file.winner order (omega (arith, sound.fewest)) whole other;
+        hardest = hardest;
+      }
+
       reached : 1 < candidate_count file → covers (candidate_count file) file.winner (assertions_of file) ≡ true →
           (order : List ℕ) × Member order (alternative_orders (candidate_count file) file.winner) →
           (claim : Claim) × Contains file.claims claim × (claim.margin ≡ file.margin)

@@ -12,7 +12,7 @@ use Rattle.assertions.specs.Assertions.{margin}
 use Rattle.assertions.specs.Hardness.{low, refuter}
 use Rattle.assertions.proofs.Refuters.{refuter_or_none}
 use Rattle.assertion_file.specs.Content.{Content, Plan, IsSoundPlan, candidate_count}
-use Rattle.cover_checker.specs.Findings.{Answer, other_winner, has_other_margin, other_margin_from, unless_covered, other_smallest, smallest_margin, elects, elected, refuted_by, harder, are_same_draws, other_draws_from, other_draws}
+use Rattle.cover_checker.specs.Findings.{Answer, other_winner, has_other_margin, other_margin_from, unless_covered, other_smallest, smallest_margin, elects, elected, elected_by, refuted_by, harder, harder_than, are_same_draws, other_draws_from, other_draws}
 use Rattle.cover_checker.specs.Draws.{clean_draws_of, IsPlanOf, HasCleanDraws}
 use Rattle.cover_checker.specs.declared.cover.Verdict.{Verdict}
 use Rattle.cover_checker.specs.declared.cover.Verdict.TheVariants.{Covered, Stands as OrderStands}
@@ -128,49 +128,79 @@ elects-last before c d =
     let last : length (before ++ c ∷ []) - 1 ≡ length before = omega (arith, length-append before (c ∷ [])) in
     ap (λ k. slice_index (before ++ c ∷ []) k == d) last ∙ ap (λ x. x == d) (get_or-append_seam before c [] 0)
 
-pub elected-none : (file : Content) → elected file ≡ None → elects file.order file.winner ≡ false
-elected-none file h = let found : Answer = Ok NotAlternative in when-none (elects file.order file.winner) found h
+pub elected-none : (file : Content) → elected file ≡ None → IfSome file.order (λ order. elects order file.winner ≡ false)
+elected-none file h = by file.order h where
+  by : (order : Option (List ℕ)) → option_and_then (elected_by file) order ≡ None → IfSome order (λ order. elects order file.winner ≡ false)
+  by None h = tt
+  by (Some order) h = let found : Answer = Ok NotAlternative in when-none (elects order file.winner) found h
 
-pub none-elected : (file : Content) → elects file.order file.winner ≡ false → elected file ≡ None
-none-elected file e = let found : Answer = Ok NotAlternative in ap (λ b. if b then Some found else None) e
+pub none-elected : (file : Content) → IfSome file.order (λ order. elects order file.winner ≡ false) → elected file ≡ None
+none-elected file e = by file.order e where
+  by : (order : Option (List ℕ)) → IfSome order (λ order. elects order file.winner ≡ false) → option_and_then (elected_by file) order ≡ None
+  by None e = refl
+  by (Some order) e = let found : Answer = Ok NotAlternative in ap (λ b. if b then Some found else None) e
 
 pub elected-never : (file : Content) → NeverAccepts (elected file)
-elected-never file h =
-    let found : Answer = Ok NotAlternative in
-    let accepted : Answer = Ok Accepted in
-    let e : found ≡ accepted = when-some (elects file.order file.winner) found accepted h in
-    cc
+elected-never file = by file.order where
+  by : (order : Option (List ℕ)) → NeverAccepts (option_and_then (elected_by file) order)
+  by None h = cc
+  by (Some order) h =
+      let found : Answer = Ok NotAlternative in
+      let accepted : Answer = Ok Accepted in
+      let e : found ≡ accepted = when-some (elects order file.winner) found accepted h in
+      cc
 
-module _ (records : List (List ℕ)) (file : Content) where
+module _ (records : List (List ℕ)) (file : Content) (order : List ℕ) where
   hardness : ℕ
-  hardness = low (candidate_count file) records file.order
+  hardness = low (candidate_count file) records order
 
-  by : Option Assertion
-  by = refuter (candidate_count file) records file.order
+  refuting : Option Assertion
+  refuting = refuter (candidate_count file) records order
 
-  pub harder-none : harder records file ≡ None → low (candidate_count file) records file.order ≤ file.margin
-  unfolding hardness by
-  harder-none h = go (nat_lt file.margin hardness) by refl refl h where
-    go : (b : Bool) (o : Option Assertion) → nat_lt file.margin hardness ≡ b → by ≡ o → (if b then refuted_by hardness o else None) ≡ None →
+  than-none : harder_than records file order ≡ None → low (candidate_count file) records order ≤ file.margin
+  unfolding hardness refuting
+  than-none h = go (nat_lt file.margin hardness) refuting refl refl h where
+    go : (b : Bool) (o : Option Assertion) → nat_lt file.margin hardness ≡ b → refuting ≡ o → (if b then refuted_by hardness o else None) ≡ None →
         hardness ≤ file.margin
     go true None e k h =
         let lt = ltb-true file.margin hardness e in
-        let none : hardness ≡ 0 = refuter_or_none (candidate_count file) records file.order k in
+        let none : hardness ≡ 0 = refuter_or_none (candidate_count file) records order k in
         absurd (omega (arith, lt, none))
     go true (Some a) e k h = cc
     go false o e k h = ltb-false file.margin hardness e
 
-  pub none-harder : low (candidate_count file) records file.order ≤ file.margin → harder records file ≡ None
-  unfolding hardness by
-  none-harder h = ap (λ b. if b then refuted_by hardness by else None) (le-ltb file.margin hardness h)
+  none-than : low (candidate_count file) records order ≤ file.margin → harder_than records file order ≡ None
+  unfolding hardness refuting
+  none-than h = ap (λ b. if b then refuted_by hardness refuting else None) (le-ltb file.margin hardness h)
 
-  pub harder-never : NeverAccepts (harder records file)
-  unfolding hardness by
-  harder-never h = go (nat_lt file.margin hardness) by h where
+  than-never : NeverAccepts (harder_than records file order)
+  unfolding hardness refuting
+  than-never h = go (nat_lt file.margin hardness) refuting h where
     go : (b : Bool) (o : Option Assertion) → NeverAccepts (if b then refuted_by hardness o else None)
     go true None h = cc
     go true (Some a) h = cc
     go false o h = cc
+
+module _ (records : List (List ℕ)) (file : Content) where
+  pub harder-none : harder records file ≡ None → IfSome file.order (λ order. low (candidate_count file) records order ≤ file.margin)
+  harder-none h = by file.order h where
+    by : (order : Option (List ℕ)) → option_and_then (harder_than records file) order ≡ None →
+        IfSome order (λ order. low (candidate_count file) records order ≤ file.margin)
+    by None h = tt
+    by (Some order) h = than-none records file order h
+
+  pub none-harder : IfSome file.order (λ order. low (candidate_count file) records order ≤ file.margin) → harder records file ≡ None
+  none-harder h = by file.order h where
+    by : (order : Option (List ℕ)) → IfSome order (λ order. low (candidate_count file) records order ≤ file.margin) →
+        option_and_then (harder_than records file) order ≡ None
+    by None h = refl
+    by (Some order) h = none-than records file order h
+
+  pub harder-never : NeverAccepts (harder records file)
+  harder-never = by file.order where
+    by : (order : Option (List ℕ)) → NeverAccepts (option_and_then (harder_than records file) order)
+    by None h = cc
+    by (Some order) h = than-never records file order h
 
 -- ---- the draws
 same-draws : (a b : Option ℕ) → are_same_draws a b ≡ true → a ≡ b

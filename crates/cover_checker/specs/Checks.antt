@@ -44,7 +44,7 @@ abbrev pub IsAnswer : Budget → BallotFile → Content → Answer → Type 0
 IsAnswer budget ballots file answer =
     MatchBool (is_about ballots file) (Judges budget ballots file answer) (answer ≡ Ok OtherContest)
 
--- what a fault says; of want of memory nothing is said
+-- what a fault says; want of memory says nothing
 abbrev pub IsFault : Budget → BallotFile → Content → CheckFault → Type 0
 IsFault budget ballots file (Spent last) = IsAnswer budget ballots file (Err (Spent last))
 IsFault budget ballots file (SpentSets sets) = IsAnswer budget ballots file (Err (SpentSets sets))

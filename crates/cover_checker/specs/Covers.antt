@@ -68,7 +68,8 @@ abbrev pub IsEnoughFor : ℕ → Budget → Type 0
 IsEnoughFor n (Nodes nodes) = 2 * factorial (n - 1) ≤ nodes
 IsEnoughFor n (Sets sets) = 2 ^ n - 3 ≤ sets
 
--- so much is enough to find the claims of the certificate: for each candidate the suffixes, or in all the sets, that stand below its margin
+-- this much is enough to find the claims of the certificate: for each candidate the suffixes, or in all the sets, that are reached below
+-- its margin
 abbrev pub IsEnoughBelow : Budget → ℕ → ℕ → List (List ℕ) → ℕ → Type 0
 IsEnoughBelow (Nodes nodes) n winner records margin =
     (c : ℕ) → c < n → c ≢ winner → cover_count n (low n records) margin c ≤ nodes

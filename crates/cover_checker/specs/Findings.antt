@@ -48,7 +48,7 @@ other_winner winner file = if file.winner == winner then None else Some (Ok (Oth
 abbrev pub has_other_margin : List (List ℕ) → Claim → Bool
 has_other_margin records claim = not (int_eq (pos claim.margin) (margin records claim.assertion))
 
--- the first such claim, where the claims are counted from this number on
+-- the first such claim, if the claims are counted from this number on
 abbrev pub other_margin_from : List (List ℕ) → ℕ → List Claim → Option Answer
 other_margin_from records at [] = None
 other_margin_from records at (claim ∷ claims) =
@@ -69,7 +69,7 @@ unless_covered (Err (CoverSpent last)) = Some (Err (Spent last))
 unless_covered (Err (CoverSpentSets sets)) = Some (Err (SpentSets sets))
 unless_covered (Err CoverMemory) = Some (Err Memory)
 
--- the order that no claim refutes, or a budget that doesn't suffice to tell
+-- the order that no claim refutes, or a budget that isn't enough to find it
 abbrev pub uncovered : Budget → Content → Option Answer
 uncovered budget file =
     unless_covered (covered_is (candidate_count file) file.winner (assertions_of file) budget)
@@ -84,30 +84,38 @@ other_smallest file =
     if smallest_margin file == file.margin then None
     else Some (Ok (NotLeast (smallest_margin file)))
 
--- the winner stands last
+-- the winner is last
 abbrev pub elects : List ℕ → ℕ → Bool
 elects order c = slice_index order (length order - 1) == c
 
+abbrev pub elected_by : Content → List ℕ → Option Answer
+elected_by file order = if elects order file.winner then Some (Ok NotAlternative) else None
+
+-- by its order, if it has one
 abbrev pub elected : Content → Option Answer
-elected file = if elects file.order file.winner then Some (Ok NotAlternative) else None
+elected file = option_and_then (elected_by file) file.order
 
 abbrev pub refuted_by : ℕ → Option Assertion → Option Answer
 refuted_by margin None = None
 refuted_by margin (Some assertion) = Some (Ok (Harder assertion margin))
 
--- the assertion of the greatest margin that refutes the order, and the first of these, where that margin is above the file's
-abbrev pub harder : List (List ℕ) → Content → Option Answer
-harder records file =
-    let hardness = low (candidate_count file) records file.order in
+-- the assertion of the greatest margin that refutes the order, and the first of these, if that margin is above the file's
+abbrev pub harder_than : List (List ℕ) → Content → List ℕ → Option Answer
+harder_than records file order =
+    let hardness = low (candidate_count file) records order in
     if nat_lt file.margin hardness
-    then refuted_by hardness (refuter (candidate_count file) records file.order) else None
+    then refuted_by hardness (refuter (candidate_count file) records order) else None
+
+-- of a margin without an order nothing is said
+abbrev pub harder : List (List ℕ) → Content → Option Answer
+harder records file = option_and_then (harder_than records file) file.order
 
 -- ---- the plan of the file
 
 abbrev pub are_same_draws : Option ℕ → Option ℕ → Bool
 are_same_draws draws others = option_eq ◌==◌ draws others
 
--- the first claim that has other draws than its clean ones, where the claims are counted from this number on
+-- the first claim that has other draws than its clean ones, if the claims are counted from this number on
 abbrev pub other_draws_from : Plan → ℕ → List Claim → List (Option ℕ) → Option Answer
 other_draws_from plan at [] draws = None
 other_draws_from plan at (claim ∷ claims) [] = None

@@ -1,5 +1,5 @@
 -- What it is for an assertion file to hold of some ballots, and to be their canonical certificate.
-use Rattle.std.specs.Prelude.{◌≡◌, ◌≤◌, ℕ, List, length, Some, All, Contains, pos, IsTrue}
+use Rattle.std.specs.Prelude.{◌≡◌, ◌≤◌, ℕ, List, length, All, Contains, pos, IfSome, IsTrue}
 use Rattle.assertions.specs.declared.assertion.Claim.{Claim}
 use Rattle.assertions.specs.Assertions.{margin}
 use Rattle.assertions.specs.Certificate.{certificate_claims, certificate_order}
@@ -10,6 +10,11 @@ use Rattle.ballot_reader.specs.Ballots.{BallotFile}
 use Rattle.assertion_file.specs.Content.{Content, candidate_count}
 use Rattle.cover_checker.specs.Draws.{HasCleanDraws}
 use Rattle.cover_checker.specs.Outcomes.{IsWinner}
+
+-- the order elects another candidate, and no true assertion of larger margin than the file's refutes it
+pub record IsHardest (ballots : BallotFile) (file : Content) (order : List ℕ) : Type 0 where
+  pub alternative : IsAlternative (candidate_count file) file.winner order
+  pub hardest : low (candidate_count file) ballots.rankings order ≤ file.margin
 
 pub record Holds (ballots : BallotFile) (file : Content) : Type 0 where
   -- the file is about the contest of the ballots
@@ -27,10 +32,23 @@ pub record Holds (ballots : BallotFile) (file : Content) : Type 0 where
   -- the margin is the smallest of theirs
   pub reached : (claim : Claim) × Contains file.claims claim × (claim.margin ≡ file.margin)
   pub smallest : All (λ claim. file.margin ≤ claim.margin) file.claims
-  -- the order elects another candidate, and no true assertion of larger margin refutes it
-  pub alternative : IsAlternative (candidate_count file) file.winner file.order
-  pub hardest : low (candidate_count file) ballots.rankings file.order ≤ file.margin
+  -- no choice of assertions has a larger margin, by its order; a file without an order doesn't say so
+  pub best : IfSome file.order (IsHardest ballots file)
   -- the draws that it plans are the clean ones
+  pub draws : HasCleanDraws file
+
+-- what holds of a file that says nothing of a best margin: all of that but `best`
+pub record IsCover (ballots : BallotFile) (file : Content) : Type 0 where
+  pub contest : file.contest ≡ ballots.contest
+  pub candidates : file.candidates ≡ ballots.candidates
+  pub records : file.records ≡ length ballots.rankings
+  pub winner : IsWinner (candidate_count file) ballots.rankings file.winner
+  pub margins :
+      All (λ claim. pos claim.margin ≡ margin ballots.rankings claim.assertion) file.claims
+  pub cover : (order : List ℕ) → IsAlternative (candidate_count file) file.winner order →
+      (claim : Claim) × Contains file.claims claim × IsTrue (refutes claim.assertion order)
+  pub reached : (claim : Claim) × Contains file.claims claim × (claim.margin ≡ file.margin)
+  pub smallest : All (λ claim. file.margin ≤ claim.margin) file.claims
   pub draws : HasCleanDraws file
 
 -- the file says what the canonical certificate of the ballots does, and plans its clean draws if any
@@ -45,6 +63,6 @@ pub record IsCertificateOf (ballots : BallotFile) (file : Content) : Type 0 wher
   pub order :
       certificate_order (candidate_count file) file.winner
       (low (candidate_count file) ballots.rankings) file.margin
-      ≡ Some file.order
+      ≡ file.order
   pub claims : file.claims ≡ certificate_claims (candidate_count file) ballots.rankings file.winner
   pub draws : HasCleanDraws file

@@ -1,5 +1,5 @@
 -- What an answer of `covered` says of the list, and of elections; and what an answer of `check` says of the file.
-use Rattle.std.specs.Prelude.{◌≡◌, ◌↔◌, ◌⊎◌, ℕ, ◌-◌, ◌*◌, ◌^◌, ◌<◌, ◌≤◌, List, Ok, Err, IsTrue}
+use Rattle.std.specs.Prelude.{◌≡◌, ◌↔◌, ◌⊎◌, ℕ, ◌-◌, ◌*◌, ◌^◌, ◌<◌, ◌≤◌, List, None, Ok, Err, IfSome, IsTrue}
 use Rattle.std.specs.List.{list_all}
 use Rattle.budget.specs.declared.budget.Budget.{Budget}
 use Rattle.budget.specs.declared.budget.Budget.TheVariants.{Nodes, Sets}
@@ -15,7 +15,7 @@ use Rattle.assertion_file.specs.Content.{Content, IsSound, candidate_count}
 use Rattle.cover_checker.specs.Covers.{stands, covered_is, IsEnough, IsEnoughFor, IsEnoughBelow}
 use Rattle.cover_checker.specs.Findings.{Answer, assertions_of}
 use Rattle.cover_checker.specs.Checks.{IsAnswer}
-use Rattle.cover_checker.specs.Holds.{Holds, IsCertificateOf}
+use Rattle.cover_checker.specs.Holds.{Holds, IsCertificateOf, IsCover}
 use Rattle.cover_checker.specs.declared.cover.Verdict.{Verdict}
 use Rattle.cover_checker.specs.declared.cover.Verdict.TheVariants.{Covered, Stands}
 use Rattle.cover_checker.specs.declared.cover.CoverFault.TheVariants.{Spent as CoverSpent, SpentSets as CoverSpentSets}
@@ -50,13 +50,13 @@ StandsIsLeast =
     × ((order : List ℕ) → IsAlternative n winner order → IsTrue (stands list order) →
     (found ≡ order) ⊎ IsTrue (comes_before found order))
 
--- the answer isn't about the nodes, where they are 2 * (n - 1)! or more
+-- the answer isn't about the nodes, if they are 2 * (n - 1)! or more
 abbrev pub CoveredIsNeverSpent : Type 0
 CoveredIsNeverSpent =
     (n winner nodes : ℕ) (list : List Assertion) (last : ℕ) → 2 * factorial (n - 1) ≤ nodes →
     covered_is n winner list (Nodes nodes) ≡ Err (CoverSpent last) → ⊥
 
--- nor about the sets, whatever number it tells, where they are 2^n - 3 or more
+-- nor about the sets, whatever number it gives, if they are 2^n - 3 or more
 abbrev pub CoveredBySetsIsNeverSpent : Type 0
 CoveredBySetsIsNeverSpent =
     (n winner sets told : ℕ) (list : List Assertion) → winner < n → 1 < n → 2 ^ n - 3 ≤ sets →
@@ -70,19 +70,27 @@ AnswerIsOne =
     (budget : Budget) (ballots : BallotFile) (file : Content) (answer other : Answer) →
     IsAnswer budget ballots file answer → IsAnswer budget ballots file other → answer ≡ other
 
--- where no budget is spent, a file is accepted exactly where it holds
+-- if no budget is spent, a file is accepted exactly if it holds
 abbrev pub AcceptedIffHolds : Type 0
 AcceptedIffHolds =
     (budget : Budget) (ballots : BallotFile) (file : Content) (checked : Checked) → IsSound file →
     IsAnswer budget ballots file (Ok checked) →
     ((checked ≡ Accepted) ↔ Holds ballots file)
 
--- a file is accepted exactly where it holds and the budget is enough
+-- a file is accepted exactly if it holds and the budget is enough
 abbrev pub AcceptedExactly : Type 0
 AcceptedExactly =
     (budget : Budget) (ballots : BallotFile) (file : Content) → IsSound file →
     (IsAnswer budget ballots file (Ok Accepted)
     ↔ (Holds ballots file
+    × IsEnough budget (candidate_count file) file.winner (assertions_of file)))
+
+-- a file without an order exactly if its claims are true by their margins and cover, its margin is the smallest, and the budget is enough
+abbrev pub CoverIsAccepted : Type 0
+CoverIsAccepted =
+    (budget : Budget) (ballots : BallotFile) (file : Content) → IsSound file → file.order ≡ None →
+    (IsAnswer budget ballots file (Ok Accepted)
+    ↔ (IsCover ballots file
     × IsEnough budget (candidate_count file) file.winner (assertions_of file)))
 
 -- the claims of an accepted file cover, within the budget
@@ -105,26 +113,42 @@ AnswerExists =
     (budget : Budget) (ballots : BallotFile) (file : Content) → IsSound file →
     (answer : Answer) × IsAnswer budget ballots file answer
 
--- the answer isn't that the nodes are spent, where they are 2 * (n - 1)! or more
+-- the answer isn't that the nodes are spent, if they are 2 * (n - 1)! or more
 abbrev pub AnswerIsNeverSpent : Type 0
 AnswerIsNeverSpent =
     (nodes : ℕ) (ballots : BallotFile) (file : Content) (last : ℕ) →
     2 * factorial (candidate_count file - 1) ≤ nodes →
     IsAnswer (Nodes nodes) ballots file (Err (Spent last)) → ⊥
 
--- nor a fault of any kind, where the budget is enough for so many candidates
+-- nor a fault of any kind, if the budget is enough for this many candidates
 abbrev pub AnswerIsNeverFault : Type 0
 AnswerIsNeverFault =
     (budget : Budget) (ballots : BallotFile) (file : Content) (fault : CheckFault) → IsSound file →
     IsEnoughFor (candidate_count file) budget → IsAnswer budget ballots file (Err fault) → ⊥
 
--- the margin of an accepted file is the best: no claims that are true of the records and refute the same orders have a larger one
+-- the margin of an accepted file with an order is the best: no claims that are true of the records and refute the same orders have a larger
+-- one
 abbrev pub AcceptedMarginIsBest : Type 0
 AcceptedMarginIsBest =
     (budget : Budget) (ballots : BallotFile) (file : Content) → IsSound file →
+    IsAnswer budget ballots file (Ok Accepted) → IfSome file.order (λ _.
+    file.margin
+    ≡ best_margin (candidate_count file) file.winner (low (candidate_count file) ballots.rankings))
+
+-- that of any accepted file is at most the best
+abbrev pub AcceptedMarginIsReached : Type 0
+AcceptedMarginIsReached =
+    (budget : Budget) (ballots : BallotFile) (file : Content) → IsSound file →
     IsAnswer budget ballots file (Ok Accepted) →
     file.margin
-    ≡ best_margin (candidate_count file) file.winner (low (candidate_count file) ballots.rankings)
+    ≤ best_margin (candidate_count file) file.winner (low (candidate_count file) ballots.rankings)
+
+-- an accepted file is accepted without its order, too
+abbrev pub AcceptedWithoutOrder : Type 0
+AcceptedWithoutOrder =
+    (budget : Budget) (ballots : BallotFile) (file : Content) → IsSound file →
+    IsAnswer budget ballots file (Ok Accepted) →
+    IsAnswer budget ballots (record file { order = None }) (Ok Accepted)
 
 -- the canonical certificate is accepted within the nodes, or the sets, that it took to find its claims
 abbrev pub CertificateIsAccepted : Type 0

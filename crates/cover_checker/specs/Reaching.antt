@@ -12,11 +12,11 @@ use Rattle.cover_checker.specs.declared.walk.SetWalk.TheVariants.{Found as EndFo
 use Rattle.cover_checker.specs.declared.walk.Stop.{Stop}
 use Rattle.cover_checker.specs.declared.walk.Stop.TheVariants.{Found, Spent, Memory}
 
--- more stands behind what was there
+-- more comes after what was there
 abbrev pub Extends : List ℕ → List ℕ → Type 0
 Extends old new = (more : List ℕ) × (new ≡ old ++ more)
 
--- where the walk stops it does so for this; of want of memory nothing is said
+-- if the walk stops it does so for this; want of memory says nothing
 abbrev pub IsStop : Seen → Stop → Type 0
 IsStop seen (Found order) = seen ≡ Err (WalkFound order)
 IsStop seen Spent = seen ≡ Err WalkSpent
@@ -27,8 +27,8 @@ stopped sets (Found order) = Ok (EndFound order)
 stopped sets Spent = Err (SpentSets sets)
 stopped sets Memory = Err CoverMemory
 
--- the first order that stands, where no more sets count than the budget has, and else the sets that are reached; of want of memory
--- nothing is said
+-- the first order that stands, if no more sets count than the budget has; otherwise the sets that are reached; want of memory says
+-- nothing
 abbrev pub IsReach : ℕ → ℕ → ℕ → (ℕ → ℕ → Bool) → Result SetWalk CoverFault → Type 0
 IsReach n winner sets goes (Ok (EndFound order)) = first_within n winner sets goes ≡ Ok (Some order)
 IsReach n winner sets goes (Ok (Ended reached)) =

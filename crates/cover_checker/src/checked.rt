@@ -9,7 +9,7 @@ use irv_base::{Candidate, Memory, Order};
 use std::error::Error;
 use std::fmt;
 
-/// Whether an assertion file holds of some ballots. Where it doesn't, the first that is found in this order.
+/// Whether an assertion file holds of some ballots. If it doesn't, the first that is found in this order.
 #[derive(Clone, Copy)]
 pub enum Checked {
     /// It is about another contest: another id, other candidates, or another number of records.
@@ -22,13 +22,13 @@ pub enum Checked {
     Stands(Order),
     /// The smallest margin of the claims isn't the file's, but `found`.
     NotLeast { found: u32 },
-    /// The file's order elects the winner.
+    /// The file has an order, and it elects the winner.
     NotAlternative,
     /// An assertion whose margin is above the file's refutes the file's order. It is the one of the largest margin, and the
     /// first of these in the fixed order.
     Harder { assertion: Assertion, margin: u32 },
-    /// The claim with this number, from 1, is the first whose planned draws aren't its clean draws, which are `found`: `None` where
-    /// it takes a full count.
+    /// The claim with this number, from 1, is the first whose planned draws aren't its clean draws, which are `found`: `None` if it takes
+    /// a full count.
     OtherDraws { index: u64, found: Option<u32> },
     /// It holds.
     Accepted,
@@ -37,10 +37,10 @@ pub enum Checked {
 /// Why it isn't known whether an assertion file holds.
 #[derive(Clone, Copy, Debug)]
 pub enum CheckFault {
-    /// Of the candidates who didn't win this is the least for whom the budget of nodes doesn't suffice to tell whether the claims
-    /// refute all orders.
+    /// Of the candidates who didn't win, the least for whom the budget of nodes isn't enough to find whether the claims refute all
+    /// orders.
     Spent { last: Candidate },
-    /// A budget of so many sets doesn't suffice to tell whether the claims refute all orders.
+    /// A budget of this many sets isn't enough to find whether the claims refute all orders.
     SpentSets { sets: u32 },
     /// Memory could not be had.
     Memory,

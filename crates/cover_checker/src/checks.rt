@@ -18,8 +18,8 @@ use irv_tabulator::{TabFault, tabulate};
 use set_tallies::Tallies;
 use std::alloc::Global;
 
-// Who stands last in the tabulated order of the tallies' contest.
-fn winner_of(alloc: Global, tallies: &mut Tallies<'_>) -> Result<Candidate, CheckFault>
+/// The winner of the tallies' contest: the last candidate of its tabulated order. The error is want of memory.
+pub fn winner_of(alloc: Global, tallies: &mut Tallies<'_>) -> Result<Candidate, CheckFault>
     ensures winner { (records : List (List ℕ)) → IsOf tallies.old.bag records
         → IfOk result (IsWinner tallies.old.bag.n records) }
     ensures fault { IfErr result IsWant }
@@ -72,9 +72,8 @@ fn judge(
     Ok(Checked::Accepted)
 }
 
-/// Whether the file holds of the votes, whose tallies these are. If it doesn't, the answer is the first that is found, in the
-/// order of `Checked`; a budget is spent where `covered` says so for the claims. Claims that hold prove the winner, whatever ties the
-/// contest has.
+/// Whether the file holds of the votes, whose tallies these are. If it doesn't, the answer is the first that is found, in the order of
+/// `Checked`; a budget is spent if `covered` says so for the claims. Claims that hold prove the winner, whatever ties the contest has.
 ///
 /// The other error is want of memory.
 pub fn check(

@@ -30,7 +30,7 @@ pub enum Verdict {
 pub enum CoverFault {
     /// The least alternative winner for whom more suffixes count than the budget has.
     Spent { last: Candidate },
-    /// More sets of candidates count than the budget has, which are so many.
+    /// More sets of candidates count than the budget has, which is this many.
     SpentSets { sets: u32 },
     /// Memory could not be had.
     Memory,
@@ -62,7 +62,7 @@ impl From<Memory> for CoverFault {
     }
 }
 
-// Whether the assertions refute each alternative order: covered, or else the first order that walks back from its last candidate through
+// Whether the assertions refute each alternative order: covered, or the first order that walks back from its last candidate through
 // suffixes that none of them refutes. Or the least candidate for whom more such suffixes count than there are nodes.
 fn by_nodes(list: Index<'_>, n: u32, winner: Candidate, nodes: u32) -> Result<Verdict, CoverFault>
     requires some { 1 ≤ n }
@@ -76,7 +76,7 @@ fn by_nodes(list: Index<'_>, n: u32, winner: Candidate, nodes: u32) -> Result<Ve
     }
 }
 
-// The verdict where a walk from set to set ends so.
+// The verdict if a walk from set to set ends so.
 fn verdict_of(end: &SetWalk) -> Verdict
     ensures { result ≡ verdict_at end.now }
 {
@@ -86,8 +86,8 @@ fn verdict_of(end: &SetWalk) -> Verdict
     }
 }
 
-// Whether the assertions refute each alternative order: covered, or else the first order that walks from set to set without a step that
-// one of them refutes anew. Or, where more sets count than these, that the sets are spent.
+// Whether the assertions refute each alternative order: covered, or the first order that walks from set to set without a step that one of
+// them refutes. Or, if more sets count than these, that the sets are spent.
 fn by_sets(
     alloc: Global,
     list: Index<'_>,
@@ -105,14 +105,14 @@ fn by_sets(
 
 /// Whether the assertions of the list refute each order of `n` candidates that elects another one than `winner`.
 ///
-/// If they don't, the answer is the order that stands: the one that no assertion refutes and that is least when
-/// read backwards. A suffix counts for an alternative winner where it ends in that candidate, isn't a whole order,
-/// is refuted by no assertion, and comes before the order that stands, if there is one, both read backwards; a set counts
-/// where such a suffix has it. Where more suffixes count for some alternative winner than the budget has nodes, the answer is
-/// `Spent` with the least of these; where more sets count than it has, `SpentSets`.
+/// If they don't, the answer is the order that stands: the one that no assertion refutes and that is least when read backwards. A suffix
+/// counts for an alternative winner if it ends in that candidate, isn't a whole order, is refuted by no assertion, and comes before the
+/// order that stands, if there is one, both read backwards. A set counts if such a suffix has it. If more suffixes count for some
+/// alternative winner than the budget has nodes, the answer is `Spent` with the least of these; if more sets count than it has,
+/// `SpentSets`.
 ///
-/// The other error is want of memory. The list is gone through once; the time for each suffix or set that counts, and each of
-/// its children, doesn't grow with it, whatever it says.
+/// The other error is want of memory. The list is gone through once. The time for each suffix or set that counts, and each of its
+/// children, doesn't grow with the list, whatever it says.
 pub fn covered(
     alloc: Global,
     n: u32,

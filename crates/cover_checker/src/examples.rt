@@ -38,14 +38,14 @@ pub fn without_neb()
         ≡ Err (CoverFault.SpentSets 2) }
 {}
 
-/// Where nothing is asserted, the order whose backward reading is least stands: 2,1,0.
+/// If nothing is asserted, the order whose backward reading is least stands: 2,1,0.
 pub fn nothing_asserted()
     ensures stands { covered_is 3 1 [] (Budget.Nodes 2) ≡ Ok (Verdict.Stands (2 ∷ 1 ∷ 0 ∷ [])) }
     ensures spent { covered_is 3 1 [] (Budget.Nodes 1) ≡ Err (CoverFault.Spent 0) }
 {}
 
-/// The certificate of three candidates is accepted within one node, or one set. Without its NEB the order 1,0,2 stands. The order 2,1,0 is
-/// refuted by more than the file's margin.
+/// The certificate of three candidates is accepted within one node, or one set. Without its NEB the order 1,0,2 stands. The order 2,1,0
+/// is refuted by more than the file's margin.
 pub fn certificate()
     ensures accepted { checked_is (Budget.Nodes 1) contests.three_candidates files.three_candidates 1
         ≡ Ok Checked.Accepted }
@@ -55,12 +55,25 @@ pub fn certificate()
         (record files.three_candidates { claims = drop 1 files.three_candidates.claims }) 1
         ≡ Ok (Checked.Stands (1 ∷ 0 ∷ 2 ∷ [])) }
     ensures other_order { checked_is (Budget.Nodes 1) contests.three_candidates
-        (record files.three_candidates { order = 2 ∷ 1 ∷ 0 ∷ [] }) 1
+        (record files.three_candidates { order = Some (2 ∷ 1 ∷ 0 ∷ []) }) 1
         ≡ Ok (Checked.Harder (Assertion.Nen 1 0 3) 2) }
 {}
 
+/// Without an order the same claims are accepted. Without their NEB the same order stands, and a margin that isn't their smallest is
+/// another one.
+pub fn covered()
+    ensures accepted { checked_is (Budget.Nodes 1) contests.three_candidates files.covered 1
+        ≡ Ok Checked.Accepted }
+    ensures without_neb { checked_is (Budget.Nodes 2) contests.three_candidates
+        (record files.covered { claims = drop 1 files.covered.claims }) 1
+        ≡ Ok (Checked.Stands (1 ∷ 0 ∷ 2 ∷ [])) }
+    ensures other_margin { checked_is (Budget.Nodes 1) contests.three_candidates
+        (record files.covered { margin = 2 }) 1
+        ≡ Ok (Checked.NotLeast 1) }
+{}
+
 /// Five cards, whose ballots are all for the first of two candidates, take five clean draws: a file that plans four, or a full count,
-/// is told so.
+/// isn't accepted.
 pub fn planned()
     ensures accepted { checked_is (Budget.Nodes 1) own.five_ballots (own.planning (Some 5)) 0
         ≡ Ok Checked.Accepted }

@@ -1,10 +1,11 @@
 // What can be found wrong with an assertion file.
 ghost use Rattle.std.specs.Prelude.{◌≡◌, ◌-◌, ◌<◌, ◌≤◌, ℕ, List, length, map, option_map, slice_index_or, None, All, IfOk, IfErr, IsTrue};
+ghost use Rattle.irv_base.specs.Orders.{is_order};
 ghost use Rattle.irv_base.specs.Tabulation.{least};
 ghost use Rattle.set_tallies.specs.Bags.{IsOf};
 ghost use Rattle.assertions.specs.Assertions.{is_proper};
 ghost use Rattle.assertion_file.specs.Content.{candidate_count};
-ghost use Rattle.cover_checker.specs.Findings.{is_about, other_winner, other_margin_from, uncovered, unless_covered, other_smallest, elected, harder, are_same_draws, other_draws, other_draws_from, IsFindingOf};
+ghost use Rattle.cover_checker.specs.Findings.{is_about, other_winner, other_margin_from, uncovered, unless_covered, other_smallest, elected, harder, harder_than, are_same_draws, other_draws, other_draws_from, IsFindingOf};
 ghost use Rattle.cover_checker.specs.Draws.{clean_draws_of};
 ghost use Rattle.km_risk.specs.Factor.{IsSetting};
 ghost use Rattle.irv_base.specs.declared.limits.TheConstants.{GREATEST_LIMIT};
@@ -76,7 +77,7 @@ fn standing(verdict: Verdict) -> Option<Checked>
     }
 }
 
-/// The order that the claims don't refute, if there is one, or the budget that doesn't suffice to tell.
+/// The order that the claims don't refute, if there is one, or the budget that isn't enough to find it.
 pub fn uncovered(
     alloc: Global,
     file: &AssertionFile,
@@ -91,8 +92,8 @@ pub fn uncovered(
     Ok(standing(verdict))
 }
 
-// The smallest margin of the claims, or 0 where there are none.
-fn smallest_margin(claims: &[Claim]) -> u32
+/// The smallest margin of the claims, or 0 if there are none.
+pub fn smallest_margin(claims: &[Claim]) -> u32
     ensures { result ≡ least (map (λ claim. claim.margin) claims.now) }
 {
     claims.iter().map(|claim| claim.margin).min().unwrap_or(0)
@@ -110,11 +111,11 @@ pub fn other_smallest(file: &AssertionFile) -> Option<Checked>
     }
 }
 
-/// The finding that the file's order elects the winner, if it does.
+/// The finding that the file's order elects the winner, if it has one that does.
 pub fn elected(file: &AssertionFile) -> Option<Checked>
     ensures { option_map Ok result ≡ elected file.now }
 {
-    let order = file.order();
+    let order = file.order()?;
     if order.at(order.len() - 1) == file.winner() {
         Some(Checked::NotAlternative)
     } else {
@@ -130,14 +131,19 @@ fn tail_of(order: &Order) -> Tail
     Tail::of(order.len(), order.candidates())
 }
 
-/// The assertion that refutes the file's order by more than the file's margin, if there is one.
-pub fn harder(file: &AssertionFile, tallies: &mut Tallies<'_>) -> Result<Option<Checked>, Memory>
-    requires { candidate_count file.now ≡ tallies.old.bag.n }
+// The assertion that refutes this order by more than the file's margin, if there is one.
+fn harder_than(
+    file: &AssertionFile,
+    order: &Order,
+    tallies: &mut Tallies<'_>,
+) -> Result<Option<Checked>, Memory>
+    requires same { candidate_count file.now ≡ tallies.old.bag.n }
+    requires order { IsTrue (is_order (candidate_count file.now) order.now) }
     ensures found { (records : List (List ℕ)) → IsOf tallies.old.bag records
-        → IfOk result (λ found. option_map Ok found ≡ harder records file.now) }
+        → IfOk result (λ found. option_map Ok found ≡ harder_than records file.now order.now) }
     ensures same { tallies.new ≡ tallies.old }
 {
-    let tail = tail_of(file.order());
+    let tail = tail_of(order);
     let scored = score(&tail, tallies)?;
     let margin = scored.low;
     if margin <= file.margin() {
@@ -147,6 +153,19 @@ pub fn harder(file: &AssertionFile, tallies: &mut Tallies<'_>) -> Result<Option<
     match by {
         Some(assertion) => Ok(Some(Checked::Harder { assertion, margin })),
         None => Ok(None),
+    }
+}
+
+/// The assertion that refutes the file's order by more than the file's margin, if there are both.
+pub fn harder(file: &AssertionFile, tallies: &mut Tallies<'_>) -> Result<Option<Checked>, Memory>
+    requires { candidate_count file.now ≡ tallies.old.bag.n }
+    ensures found { (records : List (List ℕ)) → IsOf tallies.old.bag records
+        → IfOk result (λ found. option_map Ok found ≡ harder records file.now) }
+    ensures same { tallies.new ≡ tallies.old }
+{
+    match file.order() {
+        None => Ok(None),
+        Some(order) => harder_than(file, order, tallies),
     }
 }
 

@@ -1,4 +1,6 @@
 // A list of assertions, found by what each refutes.
+//
+// It counts the assertions that refute the same, so that a trim can take one of them away.
 ghost use Rattle.std.specs.Prelude.{◌≡◌, IfOk};
 ghost use Rattle.std.specs.List.{list_any};
 ghost use Rattle.cover_checker.specs.Indexed.{IsIndexOf, is_new};
@@ -9,7 +11,8 @@ use irv_base::{CandSet, Candidate, Memory};
 use std::alloc::Global;
 use std::marker::Model;
 
-/// A list of assertions that tells at once whether one of them refutes a suffix anew.
+/// A list of assertions that can be asked in constant time whether one of them refutes a suffix that it doesn't refute without its first
+/// candidate.
 ///
 /// To a contract it is the list.
 #[derive(Drop)]

@@ -1,7 +1,7 @@
 //! What an answer of `covered` says, and one of `check`. Each law holds of every value that it names, and has no code.
 ghost use Rattle.cover_checker.specs.Laws.{CoveredIsSound, CoveredIffCovers, StandsIsLeast, CoveredIsNeverSpent, CoveredBySetsIsNeverSpent};
 ghost use Rattle.cover_checker.specs.Laws.{AnswerIsOne, AnswerExists, AnswerIsNeverSpent, AnswerIsNeverFault, AcceptedIffHolds};
-ghost use Rattle.cover_checker.specs.Laws.{AcceptedExactly, AcceptedIsCovered, AcceptedIsDecided, AcceptedMarginIsBest, CertificateIsAccepted};
+ghost use Rattle.cover_checker.specs.Laws.{AcceptedExactly, AcceptedIsCovered, AcceptedIsDecided, AcceptedMarginIsBest, AcceptedMarginIsReached, AcceptedWithoutOrder, CertificateIsAccepted, CoverIsAccepted};
 
 /// `Covered` alone proves the winner: for every list of records of which all assertions of the list are true, every
 /// possible order elects the winner, however ties are broken. The assertions must be proper.
@@ -9,7 +9,7 @@ pub fn covered_is_sound()
     ensures { CoveredIsSound }
 {}
 
-/// Where no budget is spent, the answer is `Covered` exactly where the list refutes each alternative order.
+/// If no budget is spent, the answer is `Covered` exactly if the list refutes each alternative order.
 pub fn covered_iff_covers()
     ensures { CoveredIffCovers }
 {}
@@ -39,7 +39,7 @@ pub fn answer_is_never_spent()
     ensures { AnswerIsNeverSpent }
 {}
 
-/// With so many nodes, or with `2^n - 3` sets, a file that could be read has no fault but want of memory.
+/// With this many nodes, or with `2^n - 3` sets, a file that could be read has no fault but want of memory.
 pub fn answer_is_never_fault()
     ensures { AnswerIsNeverFault }
 {}
@@ -49,15 +49,21 @@ pub fn answer_is_one()
     ensures { AnswerIsOne }
 {}
 
-/// A file is accepted exactly where it holds of the ballots, if no budget is spent.
+/// A file is accepted exactly if it holds of the ballots, if no budget is spent.
 pub fn accepted_iff_holds()
     ensures { AcceptedIffHolds }
 {}
 
-/// A file is accepted exactly where it holds of the ballots, and no more suffixes count for a candidate than there are nodes, or no
-/// more sets in all than there are.
+/// A file is accepted exactly if it holds of the ballots, and no more suffixes count for a candidate than there are nodes, or no more
+/// sets in all than there are.
 pub fn accepted_exactly()
     ensures { AcceptedExactly }
+{}
+
+/// A file without an order is accepted exactly if it is about the contest and its winner, its claims have their margins and cover, the
+/// smallest is the file's, its draws are right, and the budget is enough. So a `yes` says all of that, and nothing of a best margin.
+pub fn cover_is_accepted()
+    ensures { CoverIsAccepted }
 {}
 
 /// The claims of an accepted file are called covered, so that they prove the winner.
@@ -70,9 +76,19 @@ pub fn accepted_is_decided()
     ensures { AcceptedIsDecided }
 {}
 
-/// The margin of an accepted file is the best of the contest.
+/// The margin of an accepted file is the best of the contest, if the file has an order.
 pub fn accepted_margin_is_best()
     ensures { AcceptedMarginIsBest }
+{}
+
+/// With an order or without one, it is at most the best.
+pub fn accepted_margin_is_reached()
+    ensures { AcceptedMarginIsReached }
+{}
+
+/// An accepted file is accepted without its order, too: it then says nothing of a best margin.
+pub fn accepted_without_order()
+    ensures { AcceptedWithoutOrder }
 {}
 
 /// The canonical certificate of the ballots is accepted, within the nodes, or the sets, that it took to find its claims.

@@ -1,7 +1,7 @@
-//! The checker: whether a list of assertions refutes every order that elects another candidate, and whether an assertion file
-//! holds of some ballots.
+//! The checker: whether a list of assertions refutes every order that elects another candidate, and whether an assertion file holds of
+//! some ballots.
 //!
-//! It stands on no search, so that who trusts the checker alone can trust a list that it calls covered, and a file that it accepts.
+//! It uses no search. If you trust only the checker, you can trust a list that it calls covered and a file that it accepts.
 #![tactic(auto)]
 
 mod checked;
@@ -18,8 +18,9 @@ mod unrefuted;
 mod walk;
 
 pub use checked::{CheckFault, Checked};
-pub use checks::check;
+pub use checks::{check, winner_of};
 pub use cover::{CoverFault, Verdict, covered};
+pub use findings::smallest_margin;
 pub use index::Index;
 pub use numbered::Numbered;
 pub use reached::Reached;

@@ -1,4 +1,4 @@
-// What stands under a number.
+// What is under a number.
 ghost use Rattle.std.specs.Prelude.{◌≡◌, ◌==◌, ℕ, OnOk, OnErr, if◌then◌else◌, length, replicate};
 ghost use Rattle.cover_checker.specs.Numbered.{under};
 
@@ -10,11 +10,11 @@ use std::collections::BTreeMap;
 /// find.
 #[derive(Drop)]
 pub struct Numbered<T> {
-    /// What stands under the numbers below its length.
+    /// What is under the numbers below its length.
     pub near: Vec<T>,
     /// What was put under greater ones.
     pub far: BTreeMap<u32, T>,
-    /// What stands under a number where nothing was put.
+    /// What is under a number to which nothing was put.
     pub none: T,
 }
 

@@ -85,7 +85,7 @@ impl Reached {
         }
     }
 
-    /// Takes back all but the first so many.
+    /// Takes back all but this many first ones.
     pub fn truncate(&mut self, len: usize)
         ensures { self.new ≡ take len self.old }
     {

@@ -12,7 +12,7 @@ use assertions::Assertion;
 use irv_base::{CandSet, Candidate, Memory, ROOM};
 use std::alloc::Global;
 
-/// Contests of at most so many candidates have a table of all their sets.
+/// Contests of at most this many candidates have a table of all their sets.
 const MOST_IN_TABLE: u32 = 20;
 
 /// For each candidate the winners of the NEBs over it, and for each set the winners of the NENs of it.
@@ -111,7 +111,8 @@ impl Refuting {
 
     /// Whether one of the assertions refutes a suffix with this first candidate and this set, if none refutes its parent.
     ///
-    /// The time doesn't grow with the list where the set is in the table, and else by a step each time that the list is twice as long.
+    /// The time doesn't grow with the list if the set is in the table; otherwise it grows by a step each time that the list is twice as
+    /// long.
     #[inline(always)]
     pub fn is_any_new(&self, first: Candidate, set: CandSet) -> bool
         ensures { (list : List Said) → IsIndexOf list self.now

@@ -97,8 +97,8 @@ fn stopped(stop: Stop, sets: u32) -> Result<SetWalk, CoverFault>
 /// The walk of the suffixes of orders of `n` candidates that elect another one than `winner`, and that no assertion refutes: to the least
 /// order, read backwards, or through all sets that it reaches.
 ///
-/// A set counts where a suffix of it stands that elects another candidate than the winner, isn't whole, and comes before that order, if
-/// there is one, both read backwards. Where more than `sets` sets count, the answer is `SpentSets`. The other error is want of memory.
+/// A set counts if a suffix of it stands that elects another candidate than the winner, isn't whole, and comes before that order, if
+/// there is one, both read backwards. If more than `sets` sets count, the answer is `SpentSets`. The other error is want of memory.
 ///
 /// Each set is walked into once: the time grows with the sets that count, and not with the suffixes. The recursion is as deep as there
 /// are candidates.

@@ -5,11 +5,11 @@ use Rattle.std.specs.List.{prefix_len}
 use Rattle.std.specs.Simd.Lanes.{mask_l}
 use Rattle.memchr.specs.Find.{NoneBefore, Passes, is_byte3}
 
--- how many stand before the first that passes a test
+-- how many come before the first that passes a test
 abbrev pub before_first : (ℕ → Bool) → List ℕ → ℕ
 before_first test bytes = prefix_len (λ b. not (test b)) bytes
 
--- the place of the lowest bit that is set, or the number of lanes where none is
+-- the place of the lowest bit that is set, or the number of lanes if none is
 abbrev pub first_set : ℕ → ℕ → ℕ
 first_set marks lanes = if marks == 0 then lanes else trailing_zeros w64 marks
 
@@ -19,11 +19,11 @@ first_set marks lanes = if marks == 0 then lanes else trailing_zeros w64 marks
 abbrev pub is_low : ℕ → Bool
 is_low b = nat_lt b 0x21
 
--- a comma, or such a byte: all that end a field are among these
+-- a comma, a line end or a similar byte: all that end a field are among these
 abbrev pub is_stop : ℕ → Bool
 is_stop b = (b == 0x2C) || is_low b
 
--- a bit for each of the first bytes of a text, set where it is a stop; how many were looked at isn't told
+-- a bit for each of the first bytes of a text, set if it is a stop; how many were looked at is unknown
 pub record AreMarks (marks : ℕ) (text : List ℕ) : Type 0 where
   pub looked : ℕ
   pub few : looked ≤ 64

@@ -28,7 +28,7 @@ fields_in (b ∷ text) =
     else if b == 0x2C then [] ∷ fields_in text
     else with_front (b ∷ []) (fields_in text)
 
--- what stands behind the end of the first line
+-- what comes after the end of the first line
 abbrev pub behind_line : List ℕ → List ℕ
 behind_line [] = []
 behind_line (b ∷ text) = if is_line_end b then text else behind_line text
@@ -43,7 +43,7 @@ are_whole_lines (b ∷ next ∷ text) = are_whole_lines (next ∷ text)
 abbrev pub is_unended : List ℕ → Bool
 is_unended text = not (list_any is_line_end text)
 
--- the fields behind a comma, up to the end of the line; none where no comma stood
+-- the fields after a comma, up to the end of the line; none if there was no comma
 abbrev pub fields_behind : Option (Bor (List ℕ)) → Fields
 fields_behind None = []
 fields_behind (Some text) = fields_in text.now

@@ -13,21 +13,21 @@ pub record AtHand : Type 0 where
 abbrev pub text_of : AtHand → List ℕ
 text_of at_hand = at_hand.lines ++ at_hand.last
 
--- of a text that came these records were read, and what is at hand stands behind them, whatever comes next
+-- of a text that came these records were read, and what is at hand comes after them, whatever comes next
 pub record IsBehind (text : List ℕ) (rows : List Fields) (at_hand : AtHand) : Type 0 where
   pub whole : IsTrue (are_whole_lines at_hand.lines)
   pub unended : IsTrue (is_unended at_hand.last)
   pub says : (more : List ℕ) →
       numbered_records (text ++ more) ≡ rows ++ numbered_records (text_of at_hand ++ more)
 
--- lines that are looked at: long enough for a byte order mark to be whole, not too many, and plain behind one
+-- lines that are looked at: long enough for a byte order mark to be whole, not too many, and plain after one
 abbrev pub can_be_read : List ℕ → Bool
 can_be_read lines =
     nat_le (length byte_order_mark) (length lines) && nat_le (length lines) MOST_AT_HAND
     && not (length (without_mark lines) == 0) && is_plain (without_mark lines)
 
--- If these are whole lines, they have the same records whatever stands behind them, and what stands there has those that it has behind a line
--- feed.
+-- If these are whole lines, they have the same records whatever comes after them, and what comes after them has the records that it has
+-- after a line feed.
 abbrev pub StandApart : List ℕ → Type 0
 StandApart lines =
     IsTrue (are_whole_lines lines) → (rest : List ℕ) →

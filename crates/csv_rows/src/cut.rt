@@ -8,7 +8,7 @@ use crate::lines::{COMMA, cut_field, ends_field};
 use crate::stops::marks_behind;
 use crate::trim::trimmed;
 
-/// The place of the first comma or line end, where the marks tell it and no blank stands before it.
+/// The place of the first comma or line end, if the marks show it and no blank comes before it.
 #[inline(always)]
 pub fn bare_end(text: &[u8], marks: u64) -> Option<usize>
     requires { AreMarks marks text.now }
@@ -24,7 +24,7 @@ pub fn bare_end(text: &[u8], marks: u64) -> Option<usize>
     Some(end)
 }
 
-/// The text behind the comma that ends the first field, if one does, where the field has no blanks and ends at this place.
+/// The text after the comma that ends the first field, if one does, if the field has no blanks and ends at this place.
 #[inline(always)]
 pub fn behind_bare(text: &[u8], end: usize) -> Option<&[u8]>
     requires { IsBareEnd text.now end }
@@ -38,8 +38,8 @@ pub fn behind_bare(text: &[u8], end: usize) -> Option<&[u8]>
     Some(&text[end + 1..])
 }
 
-/// Cuts the first field off a line, without the blanks round it, and leaves the text behind the comma that ends it, if one does, with the
-/// marks of that text. The field may have blanks, or lie behind the marks: few do, so that this isn't made part of what calls it.
+/// Cuts the first field off a line, without the blanks around it, and leaves the text after the comma that ends it, if one does, with the
+/// marks of that text. The field may have blanks, or lie beyond the marks. Few do, so this isn't inlined.
 #[inline(never)]
 pub fn cut_any<'t>(text: &'t [u8], left: &mut Option<&'t [u8]>, marks: &mut u64) -> &'t [u8]
     requires { AreMarks marks.old text.now }

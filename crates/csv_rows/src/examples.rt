@@ -37,8 +37,8 @@ pub fn marks()
     ensures cut_off { without_mark (0xEF ∷ 0xBB ∷ []) ≡ 0xEF ∷ 0xBB ∷ [] }
 {}
 
-/// The fields of a line end at its commas and at its end, which is a carriage return or a line feed; one field is empty where none
-/// stands. A text with a double quote or the first byte of a mark isn't plain.
+/// The fields of a line end at its commas and at its end, which is a carriage return or a line feed; a line with
+/// nothing in it has one field, an empty one. A text with a double quote or the first byte of a mark isn't plain.
 pub fn lines()
     ensures fields { fields_in (codes "a,,b" ++ 0x0D ∷ codes "c,d") ≡ codes "a" ∷ [] ∷ codes "b" ∷ [] }
     ensures behind { behind_line (codes "a,,b" ++ 0x0D ∷ codes "c,d") ≡ codes "c,d" }

@@ -11,7 +11,7 @@ use crate::record_fields::RecordFields;
 use csv::ByteRecord;
 use std::marker::Model;
 
-/// Where fields stand.
+/// The places of fields.
 #[derive(Drop)]
 pub enum Place<'r> {
     /// In a record that `csv` read.

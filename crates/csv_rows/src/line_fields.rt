@@ -13,7 +13,7 @@ use std::marker::Model;
 /// The fields of a line that are still to come, without the spaces and tabs round them.
 #[derive(Drop)]
 pub struct LineFields<'t> {
-    // The text from the next field on. None where the last field had no comma behind it.
+    // The text from the next field on. None if the last field had no comma after it.
     left: Option<&'t [u8]>,
     // Which of its first bytes are stops, as far as they were looked at.
     marks: u64,

@@ -35,7 +35,7 @@ pub fn ends_field(b: u8) -> bool
     b == COMMA || b == CARRIAGE_RETURN || b == LINE_FEED
 }
 
-// The place of the first comma or line end, where none stands before `from`.
+// The place of the first comma or line end, if none comes before `from`.
 fn field_end_from(text: &[u8], from: usize) -> Option<usize>
     requires within { from ≤ length text.now }
     requires before { Nowhere (Passes (is_byte3 0x2C 0x0D 0x0A) text.now) 0 from }
@@ -64,7 +64,7 @@ fn first_field_end(text: &[u8]) -> Option<usize>
     field_end_from(text, FIELD_LANES)
 }
 
-// The place of the first line end, where none stands before `from`.
+// The place of the first line end, if none comes before `from`.
 fn line_end_from(text: &[u8], from: usize) -> Option<usize>
     requires within { from ≤ length text.now }
     requires before { Nowhere (Passes (is_byte2 0x0D 0x0A) text.now) 0 from }
@@ -93,7 +93,7 @@ fn first_line_end(text: &[u8]) -> Option<usize>
     line_end_from(text, from)
 }
 
-/// The whole lines at the front of a text, with the end of the last of them, and the line behind them, which has no end.
+/// The whole lines at the front of a text, with the end of the last of them, and the line after them, which has no end.
 pub fn whole_lines(text: &[u8]) -> (&[u8], &[u8])
     ensures parts { text.now ≡ result.0.now ++ result.1.now }
     ensures whole { IsTrue (are_whole_lines result.0.now) }
@@ -105,7 +105,7 @@ pub fn whole_lines(text: &[u8]) -> (&[u8], &[u8])
     }
 }
 
-/// The lines of a text up to the end of the one in which byte `at` stands, and what stands behind that end.
+/// The lines of a text up to the end of the one that byte `at` is in, and what comes after that end.
 pub fn lines_up_to(text: &[u8], at: usize) -> (&[u8], &[u8])
     ensures parts { text.now ≡ result.0.now ++ result.1.now }
     ensures whole { 0 < length result.1.now → IsTrue (are_whole_lines result.0.now) }
@@ -117,7 +117,7 @@ pub fn lines_up_to(text: &[u8], at: usize) -> (&[u8], &[u8])
     }
 }
 
-/// What stands behind the end of the first line.
+/// What comes after the end of the first line.
 pub fn behind_line(text: &[u8]) -> &[u8]
     ensures { result.now ≡ behind_line text.now }
 {
@@ -127,7 +127,7 @@ pub fn behind_line(text: &[u8]) -> &[u8]
     }
 }
 
-/// The first field of a line, and the text behind the comma that ends it, if one does.
+/// The first field of a line, and the text after the comma that ends it, if one does.
 pub fn cut_field(text: &[u8]) -> (&[u8], Option<&[u8]>)
     ensures fields { fields_in text.now ≡ result.0.now ∷ fields_behind result.1 }
     ensures behind { IfSome result.1 (λ left. left.now ≡ drop (length result.0.now + 1) text.now) }

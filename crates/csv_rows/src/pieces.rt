@@ -11,7 +11,7 @@ use irv_base::Memory;
 use std::alloc::Global;
 use std::marker::Model;
 
-/// How many bytes of whole lines are looked at, at most. Where more are at hand, they couldn't be passed, and each piece would have those
+/// How many bytes of whole lines are looked at, at most. If more are at hand, they couldn't be passed on, and each piece would have those
 /// that aren't plain looked at again.
 pub const MOST_AT_HAND: usize = 8 << 20;
 
@@ -79,8 +79,9 @@ impl Pieces {
         }
     }
 
-    /// The whole lines, where what stands behind these can't change their records: they have no double quote and no byte EF but that of a
-    /// byte order mark at their front, which would be whole. Lines that are many aren't looked at.
+    /// The whole lines, if what comes after these can't change their records: they have no double quote and no byte EF except that of a
+    /// byte order mark at their front, which would be whole. Lines with more than `MOST_AT_HAND` bytes in all aren't
+    /// looked at.
     pub fn lines(&self) -> Option<PlainLines<'_>>
         ensures told { is_some result ≡ can_be_read self.now.lines }
         ensures some { IfSome result (λ _. 0 < length self.now.lines) }
@@ -107,7 +108,7 @@ impl Pieces {
         self.lines.len()
     }
 
-    /// The records of the whole lines are read: what stands behind them is at hand.
+    /// The records of the whole lines are read: what comes after them is at hand.
     pub fn pass(&mut self)
         requires some { 0 < length self.old.lines }
         requires apart { StandApart self.old.lines }

@@ -55,7 +55,7 @@ impl<'t> PlainLines<'t> {
         self.text.len()
     }
 
-    /// Those up to the end of the line in which byte `at` stands, and those behind.
+    /// Those up to the end of the line that byte `at` is in, and those after.
     pub fn cut(&self, at: usize) -> (PlainLines<'t>, PlainLines<'t>)
         ensures { self.now ≡ result.0 ++ result.1 }
     {

@@ -41,7 +41,7 @@ impl<'t> Model for PlainRows<'t> {
     ghost invariant = { λ rows. IsTrue (is_plain rows.left.now) × AreMarks rows.marks rows.row.now };
 }
 
-// The text from the first line on that is no blank record, its marks, and what stands behind the end of that line.
+// The text from the first line on that is no blank record, its marks, and what comes after the end of that line.
 fn next_line(text: &[u8]) -> Option<(&[u8], u64, &[u8])>
     requires { IsTrue (is_plain text.now) }
     ensures first { IfSome result (λ next. numbered (records default_config text.now)

@@ -1,4 +1,7 @@
-// The marks of a text: which of its first bytes end a field, or may be a blank; and what stands behind its first line.
+// The marks of a text: which of its first bytes end a field, or may be a blank; and what comes after its first line.
+//
+// One look at 64 bytes finds the commas and the bytes that aren't above a space. The first mark mostly ends the field, which then has no
+// blank to remove, and the next marks are those of the next fields.
 ghost use Rattle.std.specs.Prelude.{ℕ, ◌≡◌, ◌+◌, ◌≤◌, List, length, map, take, drop};
 ghost use Rattle.std.specs.Simd.Lanes.{mask_l};
 ghost use Rattle.csv_rows.specs.Lanes.{AreMarks, before_first, is_low, is_stop};
@@ -8,14 +11,14 @@ use crate::lanes::first_set;
 use crate::lines::{COMMA, behind_line, is_line_end};
 use std::simd::prelude::*;
 
-// So many bytes are looked at side by side.
+// This many bytes are looked at at once.
 const MARK_LANES: usize = 64;
 
 // The byte above a space
 const ABOVE_SPACE: u8 = b' ' + 1;
 
-// The marks of the first `MARK_LANES` bytes, and how many of these stand before the first that isn't above a space: a blank, a line end
-// or another.
+// The marks of the first `MARK_LANES` bytes, and how many of these come before the first that isn't above a space: a blank, a line end or
+// another.
 #[inline(always)]
 fn marks_and_low(text: &[u8]) -> (u64, usize)
     requires { MARK_LANES ≤ length text.now }
@@ -39,7 +42,7 @@ pub fn marks_of(text: &[u8]) -> u64
     marks_and_low(text).0
 }
 
-/// The marks of a text, and what stands behind the end of its first line. Most lines end within the first look, and have no blank.
+/// The marks of a text, and what comes after the end of its first line. Most lines end within the first look, and have no blank.
 #[inline(always)]
 pub fn cut_line(text: &[u8]) -> (u64, &[u8])
     ensures marks { AreMarks result.0 text.now }
@@ -55,7 +58,7 @@ pub fn cut_line(text: &[u8]) -> (u64, &[u8])
     (marks, behind_line(text))
 }
 
-/// The marks of a text, of which these are the marks, behind its byte at `end`.
+/// The marks of the rest of a text after its byte at `end`, from the marks of the text.
 #[inline(always)]
 pub fn marks_behind(marks: u64, end: usize) -> u64
     ensures { (text : List ℕ) → AreMarks marks text → AreMarks result (drop (end + 1) text) }

@@ -7,6 +7,6 @@ use Rattle.desk.specs.Count.{one_more}
 abbrev pub is_to_fail : List ℕ → ℕ → Bool
 is_to_fail fails number = list_any (λ n. n == number) fails
 
--- one more fault where a call failed
+-- one more fault if a call failed
 abbrev pub faults_after : {T E : Type 0} → Result T E → ℕ → ℕ
 faults_after result faults = if is_err result then one_more faults else faults

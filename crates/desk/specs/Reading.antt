@@ -13,11 +13,11 @@ IsWhyUnread held limit TooLong = (bytes : List ℕ) × (held ≡ Some bytes) × 
 IsWhyUnread held limit ReadFault = ⊤
 IsWhyUnread held limit Memory = ⊤
 
--- the bytes are what is held under the name, where that is told
+-- the bytes are what is held under the name, if the desk reports that
 abbrev pub AreHeld : Option (List File) → List ℕ → List ℕ → Type 0
 AreHeld held name bytes = IfSome held (λ files. held_bytes name files ≡ Some bytes)
 
--- Bytes came that are these, within the limit, as many as the desk has served, and a taker has taken them behind what it had.
+-- These bytes came, within the limit, as many as the desk has served, and a taker has taken them after what it had.
 pub record TookAll
     {T : Type 0} (sought : T → Option (List ℕ)) (has_taken : T → List ℕ → Type 0) (old new : T)
     (AreThese : List ℕ → Type 0) (limit served : ℕ) : Type 0 where
@@ -27,7 +27,7 @@ pub record TookAll
   pub all : length bytes ≡ served
   pub took : TookMore sought has_taken old new bytes
 
--- one more miss where the file is missing
+-- one more miss if the file is missing
 abbrev pub misses_after_reading : {T : Type 0} → Result T DeskFault → ℕ → ℕ
 misses_after_reading (Err Missing) misses = one_more misses
 misses_after_reading result misses = misses

@@ -7,7 +7,7 @@ use Rattle.desk.specs.declared.served.Served.{Served}
 abbrev pub nothing : Served
 nothing = record { begins = 0; misses = 0; bytes = 0; longest = 0; too_long = 0 }
 
--- one more miss where `begin` answered false
+-- one more miss if `begin` answered false
 abbrev pub misses_after : {E : Type 0} → Result Bool E → ℕ → ℕ
 misses_after (Ok false) misses = one_more misses
 misses_after result misses = misses

@@ -3,7 +3,7 @@ use Rattle.std.specs.Prelude.{ℕ, ◌≤◌, List, length, take}
 use Rattle.std.specs.Io.KnownBytes.{Appends}
 use Rattle.desk.specs.declared.sink.Sink.{Ghosts}
 
--- the sink took the text, where that is told
+-- the sink took the text, if it reports that
 abbrev pub Took : {S : Type 0} → Ghosts S → S → S → List ℕ → Type 0
 Took sink old new text = Appends (sink.taken old) (sink.taken new) text
 

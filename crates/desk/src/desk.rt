@@ -1,4 +1,4 @@
-// Where files are read.
+// The source of files.
 ghost use Rattle.std.specs.Prelude.{◌≡◌, ◌<◌, ℕ, List, Bool, true, Option, length, take, is_ok, is_some, IfOk, IfSome};
 ghost use Rattle.std.specs.Io.{ReadsAtMost};
 ghost use Rattle.std.specs.Io.KnownBytes.{Consumes, IsAtEnd};
@@ -24,10 +24,10 @@ impl Error for Failed {}
 
 /// Files, of which one at a time is read. After a call that failed none is begun.
 pub trait Desk {
-    /// The files that are held, or not told. No call changes them.
+    /// The files that are held, or unknown. No call changes them.
     ghost held: { Self → Option (List File) };
 
-    /// What is left of the begun file, or not told.
+    /// What is left of the begun file, or unknown.
     ghost left: { Self → Option (List ℕ) };
 
     /// Whether a file is begun.

@@ -8,8 +8,8 @@ use std::fs;
 use std::io::{ErrorKind, Read};
 use std::rt::Files;
 
-/// The files of the system. It doesn't tell what they hold. What is left of the begun one it tells where the
-/// file does, and a real one doesn't.
+/// The files of the system. What they hold is unknown. What is left of the begun file is known if the file reports it, and a real one
+/// doesn't.
 #[derive(Drop)]
 pub struct FileDesk<'a, R: Files> {
     rt: &'a R,
@@ -45,7 +45,7 @@ impl<'a, R: Files> Desk for FileDesk<'a, R> {
 
     ghost served = { λ d. d.served };
 
-    /// Where the system says that there is no such file, it answers false. Any other error is a fault.
+    /// If the system says that there is no such file, it answers false. Any other error is a fault.
     fn begin(&mut self, name: &str) -> Result<bool, Failed> {
         self.file = None;
         self.served.begin();

@@ -1,4 +1,4 @@
-// Where tests hold a worker up.
+// A point at which tests hold a worker up.
 
 /// Called by a worker after each take that gave a piece. No contract depends on it: it exists for tests, which
 /// hold a worker up there.

@@ -1,6 +1,6 @@
-//! The outside of the suite: desks that files are read from, sinks that texts are written to, and a gate for
-//! tests. Each end is a trait, with one implementation in memory, which tells everything, and one over the
-//! system, whose content no contract can know. What takes a file's bytes piece by piece is a trait too.
+//! The outside of the suite: desks, from which files are read; sinks, to which texts are written; and a gate for tests. Each is a trait,
+//! with one implementation in memory, which reports everything, and one over the system, whose content no contract can know. A trait also
+//! stands for what takes a file's bytes piece by piece.
 #![tactic(auto)]
 
 mod calls;

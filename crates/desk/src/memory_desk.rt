@@ -1,4 +1,4 @@
-// Files in memory, for tests. They tell everything.
+// Files in memory, for tests. They report everything.
 ghost use Rattle.std.specs.Prelude.{◌≡◌, ◌<◌, ◌≤◌, ◌++◌, true, false, [], length, take, drop, min, is_ok, is_some, is_err, None, Some, IfOk, MatchOption, slice_get};
 ghost use Rattle.std.specs.Io.{ReadsAtMost};
 ghost use Rattle.desk.specs.Count.{one_more, HasCause};
@@ -56,8 +56,7 @@ impl Model for MemoryDesk {
 }
 
 impl MemoryDesk {
-    /// The calls of `begin` and `read` are counted together, from 1. Exactly those fail whose numbers stand in
-    /// `fails`.
+    /// The calls of `begin` and `read` are counted together, from 1. Exactly those fail whose numbers are in `fails`.
     pub fn new(files: Vec<Named>, fails: Vec<u32>) -> MemoryDesk
         ensures { result ≡ record {
           files = files_of files.items;
@@ -93,7 +92,7 @@ fn place_of(files: &[Named], name: &str) -> Option<usize>
     None
 }
 
-// Copies the bytes from an offset on, as many as there is room for, and moves the offset behind them.
+// Copies the bytes from an offset on, as many as there is room for, and moves the offset past them.
 fn copy_from(bytes: &[u8], at: &mut usize, into: &mut [u8]) -> usize
     ensures count { result ≡ min (length into.new) (length (drop at.old bytes.now)) }
     ensures bytes { drop at.old bytes.now ≡ take result into.new ++ drop at.new bytes.now }
@@ -109,7 +108,7 @@ fn copy_from(bytes: &[u8], at: &mut usize, into: &mut [u8]) -> usize
     count
 }
 
-// Copies the next bytes of the file of a place, as many as there is room for, and moves the place behind them.
+// Copies the next bytes of the file of a place, as many as there is room for, and moves the place past them.
 fn copy_next(files: &[Named], place: &mut Place, into: &mut [u8]) -> usize
     ensures count { result ≡ min (length into.new) (length (left_from files.now (Some place.old))) }
     ensures bytes { left_from files.now (Some place.old) ≡

@@ -1,4 +1,4 @@
-// A text in memory, for tests. It tells everything.
+// A text in memory, for tests. It reports everything.
 ghost use Rattle.std.specs.Prelude.{◌≡◌, ◌<◌, ◌≤◌, ◌-◌, ◌||◌, [], length, is_err, Some, nat_lt, IfOk};
 ghost use Rattle.std.specs.Io.KnownBytes.{WriteAppends};
 ghost use Rattle.desk.specs.Count.{one_more, HasCause};
@@ -37,8 +37,8 @@ impl Model for MemorySink {
 }
 
 impl MemorySink {
-    /// It takes room for so many bytes. Its writes are counted from 1. Exactly those fail whose numbers stand
-    /// in `fails`, and those whose piece doesn't fit the room that is left.
+    /// It takes room for this many bytes. Its writes are counted from 1. Exactly those fail whose numbers are in `fails`, and those whose
+    /// piece doesn't fit the room that is left.
     pub fn new(alloc: Global, room: u32, fails: Vec<u32>) -> Result<MemorySink, Memory>
         ensures { IfOk result (λ sink. sink ≡ record {
           taken = [];

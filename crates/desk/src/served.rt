@@ -1,14 +1,16 @@
-// What a desk has served, whether or not it tells its files.
+// What a desk has served, whether or not it reports its files.
+//
+// A ghost member must be a function of the value, so these counts exist at run time. No code reads them for its answer.
 ghost use Rattle.std.specs.Prelude.{◌≡◌, max};
 ghost use Rattle.desk.specs.Count.{grown, one_more};
 ghost use Rattle.desk.specs.Passing.{passing};
 
 use irv_base::MOST_FILE_BYTES;
 
-/// What a desk has served so far, whether or not it tells its files. Each count stops at the last u64.
+/// What a desk has served so far, whether or not it reports its files. Each count stops at the last u64.
 ///
-/// A `Desk` keeps one to say what came of its calls: it calls `begin` at the start of each of its own
-/// `begin`, then `miss` where that answers false, and `give` at each read that succeeds.
+/// A `Desk` keeps one to say what came of its calls: it calls `begin` at the start of each of its own `begin`, then `miss` if that
+/// answers false, and `give` at each read that succeeds.
 #[derive(Clone, Copy, Debug, PartialEq, Eq)]
 pub struct Served {
     /// How often `begin` was called.
@@ -54,7 +56,7 @@ impl Served {
         self.misses = self.misses.saturating_add(1);
     }
 
-    /// So many bytes of the open file are given.
+    /// This many bytes of the open file are given.
     pub fn give(&mut self, count: usize)
         ensures { let bytes = grown self.old.bytes count in
             self.new ≡ record self.old {

@@ -1,4 +1,4 @@
-// Where texts are written.
+// The target of texts.
 ghost use Rattle.std.specs.Prelude.{◌≡◌, ◌<◌, ◌≤◌, ℕ, List, Option, length, IfOk};
 ghost use Rattle.std.specs.Io.KnownBytes.{WriteAppends};
 ghost use Rattle.desk.specs.Count.{HasCause};
@@ -7,13 +7,13 @@ use crate::Failed;
 
 /// What takes a text, piece by piece.
 pub trait Sink {
-    /// The bytes taken so far, or not told.
+    /// The bytes taken so far, or unknown.
     ghost taken: { Self → Option (List ℕ) };
 
     /// How often the sink has failed. The count stops at the last u64.
     ghost faults: { Self → ℕ };
 
-    /// Takes so many first bytes, of a piece that isn't empty at least one. At `Failed` it took none.
+    /// Takes some first bytes and says how many, at least one if the piece isn't empty. At `Failed` it took none.
     fn write(&mut self, bytes: &[u8]) -> Result<usize, Failed>
         ensures bound { IfOk result (λ n. n ≤ length bytes.now) }
         ensures some { IfOk result (λ n. 0 < length bytes.now → 0 < n) }

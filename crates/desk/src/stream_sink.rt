@@ -4,7 +4,7 @@ ghost use Rattle.std.specs.Prelude.{◌≡◌};
 use crate::{Failed, Sink};
 use std::io::Write;
 
-/// A writer of std, such as the standard output. It tells what the writer tells, so nothing of a real stream.
+/// A writer of std, such as the standard output. It reports what the writer reports, so nothing for a real stream.
 #[derive(Drop)]
 pub struct StreamSink<W: Write> {
     writer: W,

@@ -6,7 +6,7 @@ use irv_base::Memory;
 
 /// What takes the bytes of a file, one piece after the other.
 pub trait Taker {
-    /// What it takes bytes for, as it was made; where it takes, that stays as it is.
+    /// What it takes bytes for, as it was made; taking bytes leaves that as it is.
     ghost sought: { Self → Option (List ℕ) };
 
     /// It has taken these bytes.

@@ -56,7 +56,7 @@ impl From<irv_base::Memory> for DeskFault {
 // How many bytes are asked for at once.
 const PIECE: usize = 65_536;
 
-/// Reads the whole file of a name into what takes its bytes, piece by piece, if it has at most `limit` bytes. Where it fails, some pieces
+/// Reads the whole file of a name into what takes its bytes, piece by piece, if it has at most `limit` bytes. If it fails, some pieces
 /// may have been taken.
 pub fn read_into<D: Desk, T: Taker>(
     desk: &mut D,
@@ -65,14 +65,14 @@ pub fn read_into<D: Desk, T: Taker>(
     into: &mut T,
 ) -> Result<(), DeskFault>
     requires { T.ready into.old }
-    // All that came was taken. Where the desk tells its files, that is what it holds, or why it isn't given.
+    // All that came was taken. If the desk reports its files, that is what it holds, or why it isn't given.
     ensures taken { OnOk result (TookAll T.sought T.has_taken into.old into.new
         (AreHeld (D.held desk.old) name.now) limit (D.served desk.new).bytes) }
     ensures unread { IfSome (D.held desk.old) (λ files.
         IfErr result (IsWhyUnread (held_bytes name.now files) limit)) }
 
-    // Told or not: one file was begun. It is missing exactly where `begin` answered false, and it is too long exactly
-    // where more than `limit` bytes came.
+    // In any case one file was begun. It is missing exactly if `begin` answered false, and too long exactly if more than `limit` bytes
+    // came.
     ensures begins { (D.served desk.new).begins ≡ one_more (D.served desk.old).begins }
     ensures missing { (D.served desk.new).misses ≡
         misses_after_reading result (D.served desk.old).misses }
@@ -82,7 +82,7 @@ pub fn read_into<D: Desk, T: Taker>(
     ensures over { (D.served desk.new).too_long ≡
         too_long_after (D.served desk.new).bytes (D.served desk.old).too_long }
 
-    // A fault comes only where the count of faults rose, and where that rose, nothing else comes.
+    // A fault comes only if the count of faults rose, and if that rose, nothing else comes.
     ensures later { D.faults desk.old ≤ D.faults desk.new }
     ensures cause { IsErrOf result DeskFault.ReadFault →
         Rose (D.faults desk.old) (D.faults desk.new) }

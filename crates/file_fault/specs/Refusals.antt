@@ -1,4 +1,4 @@
--- Why a file is refused: the rule that it breaks, and where.
+-- Why a file is refused: the rule that it breaks, and the place.
 use Rattle.std.specs.Prelude.{◌≡◌, ℕ, Result, Ok, Err}
 use Rattle.file_fault.specs.declared.fault.Fault.{Fault}
 use Rattle.file_fault.specs.declared.fault.Fault.TheVariants.{Refused, Memory}

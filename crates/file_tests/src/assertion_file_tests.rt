@@ -1,4 +1,5 @@
 // Tests of `assertion_file`: the texts of whole files, byte for byte.
+mod covering;
 mod planned;
 mod reading;
 
@@ -56,7 +57,7 @@ fn three_candidates_canonical_certificate(rt: HostRuntime) -> Result<(), Fail> {
         records: 12,
         winner: TWO,
         margin: 1,
-        order,
+        order: Some(order),
         claims,
         plan: None,
     });
@@ -86,7 +87,7 @@ fn backslash_in_an_id(rt: HostRuntime) -> Result<(), Fail> {
         records: 5,
         winner: ONE,
         margin: 1,
-        order,
+        order: Some(order),
         claims,
         plan: None,
     });

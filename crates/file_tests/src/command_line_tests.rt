@@ -1,5 +1,6 @@
 // Tests of `command_line`: lines, words that are none, and what a line asks for.
 mod contests;
+mod fewest;
 mod polling;
 mod sets;
 

@@ -12,7 +12,7 @@ use Rattle.input_files.specs.Refusals.{no_card, refused_manifest}
 abbrev pub without_card : List ℕ → BallotFile → Batches → Option Verdict
 without_card name ballots batches = option_map (no_card name) (first_without_card batches ballots)
 
--- the batches in the bytes of a manifest, where each of these ballots has a card
+-- the batches in the bytes of a manifest, if each of these ballots has a card
 abbrev pub cards_for : List ℕ → BallotFile → List ℕ → List ℕ → Result Batches Verdict
 cards_for name ballots manifest bytes =
     then_judged (told (refused_manifest manifest) (manifest_of bytes))

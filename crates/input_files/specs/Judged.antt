@@ -28,7 +28,7 @@ go_on (Err verdict) next = ends verdict
 
 -- ---- what the code does of it
 
--- this verdict is told, or memory is wanting
+-- this verdict is the answer, or memory is short
 abbrev pub IsTold : Option Verdict → Outcome → Type 0
 IsTold None due = due ≡ out_of_memory
 IsTold (Some verdict) due = IsOrMemory (outcome verdict) due

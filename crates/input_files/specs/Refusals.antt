@@ -10,6 +10,8 @@ use Rattle.manifest.specs.Faults.{rule_name as manifest_rule}
 use Rattle.manifest.specs.declared.fault.MRule.{MRule}
 use Rattle.assertion_file.specs.Faults.{rule_name as assertion_rule}
 use Rattle.assertion_file.specs.declared.fault.FRule.{FRule}
+use Rattle.claims_file.specs.Faults.{rule_name as claims_rule}
+use Rattle.claims_file.specs.declared.fault.CRule.{CRule}
 use Rattle.seen_file.specs.Faults.{rule_name as seen_rule}
 use Rattle.seen_file.specs.declared.fault.VRule.{VRule}
 use Rattle.cli_base.specs.Outcome.{Verdict, Refused, broken_at}
@@ -35,6 +37,10 @@ refused_manifest = refused_file manifest_rule
 -- an assertion file, at an assertion, or at 0 by the file's own members
 abbrev pub refused_assertions : List ℕ → Refusal FRule → Verdict
 refused_assertions = refused_file assertion_rule
+
+-- a claims file, at an assertion, or at 0 by the file's own members
+abbrev pub refused_claims : List ℕ → Refusal CRule → Verdict
+refused_claims = refused_file claims_rule
 
 -- a seen file, at a record
 abbrev pub refused_seen : List ℕ → Refusal VRule → Verdict

@@ -21,7 +21,7 @@ pub struct Cards {
     pub linked: Linked,
 }
 
-/// The cards in the bytes of a manifest, where each of the ballots, of a file with this name, has one.
+/// The cards in the bytes of a manifest, if each of the ballots, of a file with this name, has one.
 pub fn cards_for(
     alloc: Global,
     file: &FileName,

@@ -4,17 +4,21 @@ ghost use Rattle.desk.specs.Count.{one_more, Rose};
 ghost use Rattle.irv_base.specs.declared.limits.TheConstants.{ROOM};
 ghost use Rattle.assertion_file.specs.Reading.{assertion_file_of};
 ghost use Rattle.ballot_reader.specs.Grammar.{ballots_of, contests_of};
+ghost use Rattle.claims_file.specs.Claimed.{AreSound};
+ghost use Rattle.claims_file.specs.Reading.{claims_of};
 ghost use Rattle.manifest.specs.Manifest.{manifest_of};
 ghost use Rattle.seen_file.specs.Reading.{seen_of};
 ghost use Rattle.cli_base.specs.Accounts.{IsAccountedFor};
 ghost use Rattle.cli_base.specs.Due.{IsRead, status_so_far};
+ghost use Rattle.cli_base.specs.Faults.{IsFaultTold};
 ghost use Rattle.cli_base.specs.Script.{ByDesk};
 ghost use Rattle.input_files.specs.Judged.{IsJudged, IsStopped, told};
-ghost use Rattle.input_files.specs.Refusals.{refused_assertions, refused_ballots, refused_manifest, refused_seen};
+ghost use Rattle.input_files.specs.Refusals.{refused_assertions, refused_ballots, refused_claims, refused_manifest, refused_seen};
 
 use crate::judged::refuse_file;
 use assertion_file::{AssertionFile, read_file};
 use ballot_reader::{Ballots, read_ballots, read_contests};
+use claims_file::{Claims, read_claims};
 use cli_base::{Refusal, read_file as read_whole};
 use command::FileName;
 use desk::Desk;
@@ -26,7 +30,7 @@ use std::alloc::Global;
 /// All bytes of the file with this name, or why the call stops there.
 pub fn bytes_of<D: Desk>(alloc: Global, desk: &mut D, file: &FileName) -> Result<Vec<u8>, Refusal>
     ensures held { D.held desk.new ≡ D.held desk.old }
-    ensures later { D.faults desk.old ≤ D.faults desk.new }
+    ensures faults { IsFaultTold (D.faults desk.old) (D.faults desk.new) (status_so_far result) }
     ensures read { IsRead
         (ByDesk (D.held desk.old) (Rose (D.faults desk.old) (D.faults desk.new))) file.now result }
     ensures begun { (D.served desk.new).begins ≡ one_more (D.served desk.old).begins }
@@ -81,6 +85,26 @@ pub fn assertions_in(alloc: Global, file: &FileName, bytes: &[u8]) -> Result<Ass
 {
     match read_file(alloc, bytes) {
         Ok(assertions) => Ok(assertions),
+        Err(fault) => Err(refuse_file(alloc, file, fault)),
+    }
+}
+
+/// The claims for the contest with this id and these candidates in the bytes of the file with this name, or the rule that refuses them.
+pub fn claims_in(
+    alloc: Global,
+    file: &FileName,
+    contest: &Name,
+    candidates: &[Name],
+    bytes: &[u8],
+) -> Result<Claims, Refusal>
+    requires some { 1 ≤ length candidates.now }
+    requires few { length candidates.now ≤ ROOM }
+    ensures judged { IsJudged (told (refused_claims file.now)
+        (claims_of contest.now candidates.now bytes.now)) result }
+    ensures sound { IfOk result (AreSound (length candidates.now)) }
+{
+    match read_claims(alloc, contest, candidates, bytes) {
+        Ok(claims) => Ok(claims),
         Err(fault) => Err(refuse_file(alloc, file, fault)),
     }
 }

@@ -1,4 +1,4 @@
-// What is wrong with a file is told by its name.
+// What is wrong with a file is reported under its name.
 ghost use Rattle.std.specs.Prelude.{◌≡◌, List, ℕ, IfOk, string_bytes};
 ghost use Rattle.cli_base.specs.Due.{due_refusal, IsOrMemory};
 ghost use Rattle.cli_base.specs.Outcome.{Refused, outcome};
@@ -20,7 +20,7 @@ pub fn refuse_file<R: Rule>(alloc: Global, file: &FileName, fault: Fault<R>) -> 
     }
 }
 
-/// A refusal of the file with this name, for the reason that the text tells.
+/// A refusal of the file with this name, for the reason that the text gives.
 pub fn refuse_for(alloc: Global, file: &FileName, text: Result<String, AllocError>) -> Refusal
     ensures { (message : List ℕ) → IfOk text (λ text. string_bytes text ≡ message)
         → IsOrMemory (outcome (Refused file.now message)) (due_refusal result) }

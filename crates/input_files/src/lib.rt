@@ -7,6 +7,8 @@ mod judged;
 mod votes;
 
 pub use cards::{Cards, cards_for};
-pub use files::{assertions_in, ballots_in, bytes_of, contests_in, manifest_in, seen_in};
+pub use files::{
+    assertions_in, ballots_in, bytes_of, claims_in, contests_in, manifest_in, seen_in,
+};
 pub use judged::{no_record_text, refuse_file, refuse_for};
 pub use votes::{MOST_READERS, readers_at_hand, votes_of_file};

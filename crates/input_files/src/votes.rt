@@ -4,6 +4,7 @@ ghost use Rattle.std.specs.Thread.{IsSync};
 ghost use Rattle.desk.specs.Count.{one_more, Rose};
 ghost use Rattle.cli_base.specs.Accounts.{IsAccountedFor};
 ghost use Rattle.cli_base.specs.Due.{status_so_far};
+ghost use Rattle.cli_base.specs.Faults.{IsFaultTold};
 ghost use Rattle.cli_base.specs.Script.{ByDesk};
 ghost use Rattle.input_files.specs.Votes.{AreVotes};
 ghost use Rattle.ballot_reader.specs.Stages.{HasTaken};
@@ -18,10 +19,10 @@ use irv_base::{Memory, Name};
 use std::thread;
 use std::thread::Threads;
 
-/// So many workers read a ballot file side by side, at most: more would wait for its bytes, which one thread alone asks for.
+/// At most this many workers read a ballot file at the same time: more would wait for its bytes, which only one thread asks for.
 pub const MOST_READERS: u32 = 4;
 
-/// How many workers read a ballot file where a call doesn't say it: as many as there are processors, `MOST_READERS` at most.
+/// The default number of workers that read a ballot file: as many as there are processors, `MOST_READERS` at most.
 pub fn readers_at_hand<R: Threads>(rt: &R) -> u32
     ensures some { 1 ≤ result }
     ensures most { result ≤ MOST_READERS }
@@ -50,8 +51,8 @@ impl<'r, R: Threads + Sync> Taker for VotesTaker<'r, R> {
     }
 }
 
-/// The votes of the contest with this id, or of the only one, in the file with this name, read by so many workers; or why the call stops
-/// there. Of the file no more is held than `VotesReader` keeps.
+/// The votes of the contest with this id, or of the only one, in the file with this name, read by this many workers; or why the call
+/// stops there. No more of the file is held than `VotesReader` keeps.
 pub fn votes_of_file<R: AllocGlobal + Threads + Sync, D: Desk>(
     rt: &R,
     desk: &mut D,
@@ -60,7 +61,7 @@ pub fn votes_of_file<R: AllocGlobal + Threads + Sync, D: Desk>(
     workers: u32,
 ) -> Result<Votes, Refusal>
     ensures held { D.held desk.new ≡ D.held desk.old }
-    ensures later { D.faults desk.old ≤ D.faults desk.new }
+    ensures faults { IsFaultTold (D.faults desk.old) (D.faults desk.new) (status_so_far result) }
     ensures votes { AreVotes
         (ByDesk (D.held desk.old) (Rose (D.faults desk.old) (D.faults desk.new)))
         file.now (option_copied contest.entry) result }

@@ -43,7 +43,7 @@ is_same a b = pointwise ◌==◌ a b
 abbrev pub is_among : List Id → Id → Bool
 is_among ids id = list_any (λ other. is_same other id) ids
 
--- the candidate with that id, where these are the ids of the candidates
+-- the candidate with that id, if these are the ids of the candidates
 abbrev pub candidate_named : List Id → Id → Option ℕ
 candidate_named ids id = position (λ other. is_same other id) ids
 

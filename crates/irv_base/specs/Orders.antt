@@ -1,4 +1,4 @@
--- Elimination orders: all candidates, first eliminated first, so that the winner stands last.
+-- Elimination orders: all candidates, first eliminated first, so the winner is last.
 use Rattle.std.specs.Prelude.{◌≡◌, ◌≢◌, ◌<◌, ℕ, Bool, true, false, ◌&&◌, ◌==◌, nat_lt, List, [], ◌∷◌, ◌++◌, length, take, slice_index}
 use Rattle.std.specs.List.{list_all}
 use Rattle.irv_base.specs.Candidates.{candidates, is_in}
@@ -17,7 +17,7 @@ Elects order c = EndsIn order (c ∷ [])
 
 -- ---- why a list is no order of n candidates
 
--- the number at a place is a candidate that didn't stand before
+-- the number at a place is a candidate that didn't come before
 abbrev pub is_in_range : ℕ → List ℕ → ℕ → Bool
 is_in_range n list i = nat_lt (slice_index list i) n
 

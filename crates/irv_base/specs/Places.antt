@@ -13,7 +13,7 @@ pub record IsRanking (len : ℕ) (places : List ℕ) : Type 0 where
   pub below : All (λ c. c < ROOM) (take len places)
   pub distinct : IsTrue (is_distinct (take len places))
 
--- of many: each has candidates below ROOM, none of them twice
+-- for many: each has candidates below ROOM, none of them twice
 pub record AreRankings (rankings : List (List ℕ)) : Type 0 where
   pub below : All (λ ranking. All (λ c. c < ROOM) ranking) rankings
   pub distinct : All (λ ranking. IsTrue (is_distinct ranking)) rankings
@@ -25,7 +25,7 @@ pub record IsOrder (len : ℕ) (places : List ℕ) : Type 0 where
   pub padded : places ≡ take len places ++ replicate (ROOM - len) 0
   pub permutation : IsTrue (is_order len (take len places))
 
--- a suffix stands at the end, beside its set
+-- a suffix is at the end of the array, together with its set
 pub record IsSuffix (start : ℕ) (places : List ℕ) (set : ℕ) : Type 0 where
   pub few : length (drop start places) ≤ ROOM
   pub long : ROOM - length (drop start places) ≡ start

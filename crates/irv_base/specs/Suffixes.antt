@@ -1,4 +1,4 @@
--- Suffixes of elimination orders: the last candidates, first eliminated first, so that the winner stands last.
+-- Suffixes of elimination orders: the last candidates, first eliminated first, so the winner is last.
 use Rattle.std.specs.Prelude.{ℕ, Bool, ◌&&◌, ◌==◌, nat_lt, if◌then◌else◌, List, length, Option, Some, None}
 use Rattle.std.specs.List.{list_all}
 use Rattle.irv_base.specs.Candidates.{is_distinct}

@@ -1,5 +1,5 @@
--- Instant-runoff tabulation. An order lists all candidates, first eliminated first: what is left in a round is the rest of the list. Of
--- several candidates with the least tally the one with the least number is eliminated; a contest is decided where no way of breaking its
+-- Instant-runoff tabulation. An order lists all candidates, first eliminated first, so the rest of the list is what is left in a round.
+-- If several candidates have the least tally, the one with the least number is eliminated. A contest is decided if no way of breaking its
 -- ties changes the winner.
 use Rattle.std.specs.Prelude.{◌≡◌, ℕ, ◌-◌, ◌<◌, Bool, true, false, ◌&&◌, ◌||◌, ◌==◌, nat_le, nat_lt, min, List, [], ◌∷◌, map, length, drop, filter, fold, IsTrue}
 use Rattle.std.specs.List.{list_all}

@@ -34,12 +34,12 @@ pub fn tie_and_none()
     ensures { TieAndNone }
 {}
 
-/// One order alone is possible exactly where no round has a tie.
+/// Only one order is possible, exactly if no round has a tie.
 pub fn no_tie_is_one_possible()
     ensures { NoTieIsOnePossible }
 {}
 
-/// A contest is decided exactly where all possible orders elect the winner of the tabulated one.
+/// A contest is decided exactly if all possible orders elect the winner of the tabulated one.
 pub fn decided_by_tabulated()
     ensures { DecidedByTabulated }
 {}

@@ -1,4 +1,4 @@
-// Lists, kept one behind the other.
+// Lists, kept one after the other.
 ghost use Rattle.std.specs.Prelude.{◌≡◌, ◌<◌, ◌≤◌, ◌+◌, ◌-◌, ◌^◌, ◌++◌, ◌∷◌, [], List, Some, IfOk, OnOk, OnErr, All, length, map, take, drop, slice_get, slice_index_or, vec_capacity, vec_len};
 ghost use Rattle.irv_base.specs.Lists.{AreBegins, lists_between};
 
@@ -27,7 +27,7 @@ impl<T> Model for Lists<T> {
     ghost invariant = { λ l. ArePlaces l.begins.items (length l.elements.items) };
 }
 
-// Where the list with number i ends, the last of them at place n.
+// The end of the list with number i, if the last list ends at place n.
 fn end_of(begins: &[u32], n: usize, i: usize) -> usize
     requires { i < length begins.now }
     ensures { result ≡ slice_index_or begins.now (i + 1) n }
@@ -50,7 +50,7 @@ fn bounds<T>(begins: &[u32], elements: &[T], i: usize) -> (usize, usize)
     (begins[i] as usize, end_of(begins, elements.len(), i))
 }
 
-// Where a list begins that is put behind so many elements.
+// Where a list begins that is put after this number of elements.
 fn begin_behind(elements: usize) -> Result<u32, Memory>
     ensures { IfOk result (λ begin. begin ≡ elements) }
 {
@@ -60,7 +60,7 @@ fn begin_behind(elements: usize) -> Result<u32, Memory>
     Ok(elements as u32)
 }
 
-// Puts begins last, each as far behind as there are elements before them all.
+// Puts begins last, each moved up by the number of elements before them all.
 fn push_moved(begins: &mut Vec<u32>, others: &[u32], elements: u32)
     requires room { vec_len begins.old + length others.now ≤ vec_capacity begins.old }
     requires fit { All (λ begin. elements + begin < 2 ^ 32) others.now }
@@ -73,7 +73,7 @@ fn push_moved(begins: &mut Vec<u32>, others: &[u32], elements: u32)
 }
 
 impl<T: Copy> Lists<T> {
-    /// No lists, with room for so many, and for so many elements in all.
+    /// No lists, with room for this many, and for this many elements in all.
     pub fn nothing(alloc: Global, lists: usize, elements: usize) -> Result<Lists<T>, Memory>
         ensures { IfOk result (λ none. none ≡ []) }
     {
@@ -99,7 +99,7 @@ impl<T: Copy> Lists<T> {
         &self.elements[begin..end]
     }
 
-    /// Puts a list last. More than `u32::MAX` elements before it are want of memory.
+    /// Puts a list last. If more than `u32::MAX` elements come before it, the answer is `Memory`.
     pub fn push(&mut self, list: &[T]) -> Result<(), Memory>
         ensures pushed { OnOk result (self.new ≡ self.old ++ list.now ∷ []) }
         ensures same { OnErr result (self.new ≡ self.old) }
@@ -111,7 +111,7 @@ impl<T: Copy> Lists<T> {
         Ok(())
     }
 
-    /// Puts other lists last, in their order. More than `u32::MAX` elements in all are want of memory.
+    /// Puts other lists last, in their order. If there would be more than `u32::MAX` elements, the answer is `Memory`.
     pub fn append(&mut self, others: &Lists<T>) -> Result<(), Memory>
         ensures appended { OnOk result (self.new ≡ self.old ++ others.now) }
         ensures same { OnErr result (self.new ≡ self.old) }
@@ -126,7 +126,7 @@ impl<T: Copy> Lists<T> {
         Ok(())
     }
 
-    /// Puts an empty list last. More than `u32::MAX` elements before it are want of memory.
+    /// Puts an empty list last. If more than `u32::MAX` elements come before it, the answer is `Memory`.
     pub fn begin(&mut self) -> Result<(), Memory>
         ensures begun { OnOk result (self.new ≡ self.old ++ [] ∷ []) }
         ensures same { OnErr result (self.new ≡ self.old) }

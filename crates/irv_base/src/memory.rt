@@ -1,4 +1,4 @@
-// Want of memory, the one free answer of the suite.
+// Want of memory: the one answer that is free at any time.
 
 use std::alloc::{AllocError, AllocFailed};
 use std::error::Error;

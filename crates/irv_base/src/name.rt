@@ -143,7 +143,7 @@ fn place_of(names: &[Name], id: &[u8]) -> Option<usize>
     names.iter().position(|name| name.bytes() == id)
 }
 
-/// The candidate with that id, where these are the ids of the candidates.
+/// The candidate with that id, if these are the ids of the candidates.
 pub fn candidate_named(names: &[Name], id: &[u8]) -> Option<Candidate>
     requires { length names.now ≤ ROOM }
     ensures named { result ≡ candidate_named names.now id.now }

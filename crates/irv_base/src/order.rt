@@ -11,11 +11,11 @@ use std::marker::Model;
 /// Why a list of numbers is no order.
 #[derive(Clone, Copy, Debug, PartialEq, Eq)]
 pub enum BadOrder {
-    /// It has so many numbers.
+    /// It has this many numbers.
     Length(u64),
     /// The number at this place, from 0, is no candidate.
     Range(u64),
-    /// The number at this place, from 0, stands at an earlier one.
+    /// The number at this place, from 0, is also at an earlier one.
     Repeated(u64),
 }
 
@@ -31,7 +31,7 @@ impl fmt::Display for BadOrder {
 
 impl Error for BadOrder {}
 
-/// An elimination order: each candidate of a contest once, first eliminated first, so that the winner stands last.
+/// An elimination order: each candidate of a contest once, first eliminated first, so the winner is last.
 ///
 /// To a contract an order is the list of its candidates.
 #[derive(Clone, Copy)]

@@ -27,7 +27,7 @@ impl Model for Rankings {
 }
 
 impl Rankings {
-    /// No rankings, with room for so many, and for so many places in all.
+    /// No rankings, with room for this many, and for this many places in all.
     pub fn nothing(alloc: Global, rankings: usize, places: usize) -> Result<Rankings, Memory>
         ensures { IfOk result (λ none. none ≡ []) }
     {
@@ -72,7 +72,7 @@ impl Rankings {
         Ranking::of(self.at(i))
     }
 
-    /// Puts a ranking last. More than `u32::MAX` places before it are want of memory.
+    /// Puts a ranking last. If more than `u32::MAX` places come before it, the answer is `Memory`.
     pub fn push(&mut self, ranking: &Ranking) -> Result<(), Memory>
         ensures pushed { OnOk result (self.new ≡ self.old ++ ranking.now ∷ []) }
         ensures same { OnErr result (self.new ≡ self.old) }
@@ -81,7 +81,7 @@ impl Rankings {
         Ok(())
     }
 
-    /// Puts other rankings last, in their order. More than `u32::MAX` places in all are want of memory.
+    /// Puts other rankings last, in their order. If there would be more than `u32::MAX` places, the answer is `Memory`.
     pub fn append(&mut self, others: &Rankings) -> Result<(), Memory>
         ensures appended { OnOk result (self.new ≡ self.old ++ others.now) }
         ensures same { OnErr result (self.new ≡ self.old) }

@@ -8,8 +8,8 @@ ghost use Rattle.irv_base.specs.declared.limits.TheConstants.{ROOM};
 use crate::{CandSet, Candidate, Order, ROOM};
 use std::marker::Model;
 
-/// The last candidates of an elimination order, first eliminated first, so that the winner stands last. It grows at
-/// its front, and has each candidate at most once.
+/// The last candidates of an elimination order, first eliminated first, so the winner is last. It grows at its front, and has each
+/// candidate at most once.
 ///
 /// To a contract a suffix is the list of its candidates.
 #[derive(Clone, Copy)]
@@ -119,7 +119,7 @@ impl Suffix {
         self.set.has(c)
     }
 
-    /// The order that it is, where it has all candidates of a contest.
+    /// The order that it is, if it has all candidates of a contest.
     pub fn to_order(&self) -> Order
         requires some { 0 < length self.now }
         requires whole { IsTrue (is_order (length self.now) self.now) }

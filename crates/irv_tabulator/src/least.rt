@@ -15,7 +15,7 @@ pub fn votes(row: &[u32], c: Candidate) -> u32
     row[c.index()]
 }
 
-/// Of those with the least tally the one with the least number.
+/// Of those with the least tally, the one with the least number.
 pub fn lowest(row: &[u32], remaining: CandSet) -> Candidate
     requires some { 0 < length (members remaining) }
     requires within { (c : ℕ) → has remaining c ≡ true → c < length row.now }

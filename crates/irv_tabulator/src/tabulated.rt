@@ -28,12 +28,12 @@ pub struct FirstTie {
     pub tally: u32,
 }
 
-/// The tabulated order, the winner, who stands last in it, and the rounds, one for each elimination.
+/// The tabulated order, the winner, who is last in it, and the rounds, one for each elimination.
 #[derive(Drop)]
 pub struct Tabulated {
     /// The tabulated order.
     pub order: Order,
-    /// Who stands last in the order.
+    /// The last candidate of the order.
     pub winner: Candidate,
     /// A round for each elimination, the first one first.
     pub rounds: Vec<Round>,
@@ -50,7 +50,7 @@ fn tally_in(row: &[u32], c: Candidate) -> u32
 }
 
 impl Tabulated {
-    /// The first tie, or none where no round has one.
+    /// The first tie, or none if no round has one.
     pub fn tie(&self) -> Option<FirstTie>
         ensures { (n : ℕ) (records : List (List ℕ)) → IsTabulation n records self.now
             → MatchOption result (HasNoTie records (self.now).order) (IsTieOf n records) }

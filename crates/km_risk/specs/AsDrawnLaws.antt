@@ -52,7 +52,7 @@ WithinAsDrawnLaw =
     IsTrue (is_within_as_drawn cards margin gamma limit draws) →
     IsTrue (is_within cards margin gamma limit draws)
 
--- where the assertion isn't true of the cards, some first draws have a printed risk within the limit in at most limit millionths of all
+-- if the assertion isn't true of the cards, some first draws have a printed risk within the limit in at most limit millionths of all
 -- sequences: a look after each draw confirms such an assertion on no more of them
 abbrev pub AsDrawnRiskLimitLaw : Type 0
 AsDrawnRiskLimitLaw =

@@ -8,7 +8,7 @@ abbrev pub overstated : List ℕ → List ℕ
 overstated draws = filter (λ d. nat_le d 1) draws
 
 module _ (cards margin gamma : ℕ) (draws : List ℕ) (risk : ℕ) where
-  -- the risk is at least the exact risk of the draws, or at least one where that is above one
+  -- the risk is at least the exact risk of the draws, or at least one if that is above one
   abbrev pub IsNotBelow : Type 0
   IsNotBelow =
       let over = exact_numerator cards margin gamma draws in

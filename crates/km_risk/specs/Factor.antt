@@ -1,9 +1,9 @@
 -- The factor of one draw, from the cards of the manifest, the margin of the assertion in votes, and gamma in thousandths.
 --
--- A draw has a discrepancy d, from 0 to 4: 2, minus the recorded value of its card, plus the seen one (values of the
--- assorter, doubled). Without a discrepancy d is 2. The factor is (1/2 + g) / (B + g), where g is gamma / 1000 and B is
--- the value of the overstatement assorter, (1 - o) / (2 - v), at the overstatement o = (2 - d) / 2 and the margin
--- v = margin / cards (SHANGRLA, section 3.2). Above and below it is multiplied by 1000 * (2 * cards - margin).
+-- A draw has a discrepancy d, from 0 to 4: 2, minus the recorded value of its card, plus the seen one (values of the assorter, doubled).
+-- Without a discrepancy d is 2. The factor is (1/2 + g) / (B + g), where g is gamma / 1000 and B is the value of the overstatement
+-- assorter, (1 - o) / (2 - v), at the overstatement o = (2 - d) / 2 and the margin v = margin / cards (SHANGRLA, section 3.2). Numerator
+-- and denominator are multiplied by 1000 * (2 * cards - margin).
 use Rattle.std.specs.Prelude.{ℕ, ◌+◌, ◌-◌, ◌*◌, ◌≤◌}
 use Rattle.irv_base.specs.declared.limits.TheConstants.{MOST_CARDS, GREATEST_GAMMA}
 
@@ -15,7 +15,7 @@ pub record IsSetting (cards margin gamma : ℕ) : Type 0 where
   pub gamma_positive : 1 ≤ gamma
   pub gamma_within : gamma ≤ GREATEST_GAMMA
 
--- the discrepancies of all cards add up to at most this exactly where the assertion isn't true of what is seen
+-- the discrepancies of all cards add up to at most this exactly if the assertion isn't true of what is seen
 abbrev pub threshold : ℕ → ℕ → ℕ
 threshold cards margin = 2 * cards - margin
 

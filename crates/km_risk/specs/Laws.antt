@@ -1,7 +1,7 @@
 -- Laws of the risk.
 use Rattle.std.specs.Prelude.{◌≡◌, ◌≢◌, ◌↔◌, ℕ, ◌+◌, ◌*◌, ◌^◌, ◌<◌, ◌≤◌, IsTrue, List, [], map, length, All, AllPairs, Contains, sum, sum_by, count_by, MatchOption, IfSome, IsSomeAnd}
 use Rattle.std.specs.List.{range_with_len}
-use Rattle.km_risk.specs.declared.limits.TheConstants.{MILLIONTH, ONE}
+use Rattle.km_risk.specs.declared.limits.TheConstants.{CEILING, MILLIONTH, ONE}
 use Rattle.km_risk.specs.declared.draws.Counts.{Counts}
 use Rattle.km_risk.specs.Factor.{threshold, numerator, denominator}
 use Rattle.km_risk.specs.Product.{is_within as is_product_within, reach as product_reach}
@@ -16,8 +16,9 @@ use Rattle.km_risk.specs.Reach.{IsSequence, sequences, some_prefix, reach}
 pub record UnitsLaw : Type 0 where
   pub one : ONE ≡ 10 ^ 18
   pub millionth : ONE ≡ millionths_in_one * MILLIONTH
+  pub ceiling : CEILING ≡ 10 ^ 24
 
--- a draw lowers the risk exactly where its d is 2 or more
+-- a draw lowers the risk exactly if its d is 2 or more
 abbrev pub FactorLaw : Type 0
 FactorLaw =
     (cards margin gamma d : ℕ) → 1 ≤ margin → margin ≤ cards →
@@ -52,7 +53,7 @@ AtMostOneLaw =
     (cards margin gamma : ℕ) (counts : Counts) → 1 ≤ cards → margin ≤ cards → 1 ≤ gamma →
     printed_risk cards margin gamma counts ≤ ONE
 
--- the printed risk is at least the exact risk, or one where that is above one
+-- the printed risk is at least the exact risk, or one if that is above one
 abbrev pub NotBelowLaw : Type 0
 NotBelowLaw =
     (cards margin gamma : ℕ) (counts : Counts) → 1 ≤ cards → margin ≤ cards → 1 ≤ gamma →
@@ -72,8 +73,8 @@ ConfirmedLaw =
     IsTrue (is_printed_within cards margin gamma limit draws) →
     IsTrue (is_within cards margin gamma limit draws)
 
--- of a number of cards there are that number ^ n sequences of n draws, and the discrepancies along them are the sequences of
--- the cards' discrepancies
+-- with a number of cards there are that number ^ n sequences of n draws, and the discrepancies along them are the sequences of the cards'
+-- discrepancies
 abbrev pub SequencesLaw : Type 0
 SequencesLaw =
     (cards : List ℕ) (discrepancy : ℕ → ℕ) (n : ℕ) →
@@ -96,8 +97,8 @@ ProductReachLaw =
     product_reach over under limit values [] n
     ≡ count_by (some_prefix (is_product_within over under limit)) (sequences values n)
 
--- where the mean of what stands below the factors of the cards is at most what stands above them, these are at most limit
--- millionths of all sequences
+-- if the mean of the numerators of the cards' factors is at most that of the denominators, these are at most limit millionths of all
+-- sequences
 abbrev pub ProductCountingLaw : Type 0
 ProductCountingLaw =
     (over limit : ℕ) (under : ℕ → ℕ) (values : List ℕ) →
@@ -105,7 +106,7 @@ ProductCountingLaw =
     (n : ℕ) →
     product_reach over under limit values [] n * millionths_in_one ≤ limit * length values ^ n
 
--- where under never falls, values that are larger card by card stay within the limit
+-- if under never falls, values that are larger card by card stay within the limit
 abbrev pub LargerValuesLaw : Type 0
 LargerValuesLaw =
     (over limit : ℕ) (under smaller larger : ℕ → ℕ) →
@@ -122,7 +123,7 @@ ReachLaw =
     reach cards margin gamma limit discrepancies [] n
     ≡ count_by (some_prefix (is_within cards margin gamma limit)) (sequences discrepancies n)
 
--- where the assertion isn't true of the cards, these are at most limit millionths of all sequences
+-- if the assertion isn't true of the cards, these are at most limit millionths of all sequences
 abbrev pub CountingLaw : Type 0
 CountingLaw =
     (cards margin gamma limit : ℕ) (discrepancies : List ℕ) →
@@ -131,8 +132,8 @@ CountingLaw =
     (n : ℕ) →
     reach cards margin gamma limit discrepancies [] n * millionths_in_one ≤ limit * cards ^ n
 
--- where the assertion isn't true of the cards, some prefix has a printed risk within the limit in at most limit millionths of all
--- sequences: however often the audit looks at its risk, it confirms such an assertion on no more of them
+-- if the assertion isn't true of the cards, some prefix has a printed risk within the limit in at most limit millionths of all sequences:
+-- however often the audit looks at its risk, it confirms such an assertion on no more of them
 abbrev pub RiskLimitLaw : Type 0
 RiskLimitLaw =
     (cards margin gamma limit : ℕ) (discrepancies : List ℕ) →

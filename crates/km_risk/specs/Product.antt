@@ -2,7 +2,7 @@
 -- many sequences of draws get to a product within a limit.
 use Rattle.std.specs.Prelude.{ℕ, zero, suc, ◌*◌, ◌^◌, Bool, nat_le, if◌then◌else◌, List, [], ◌∷◌, ◌++◌, map, length, fold, sum_by}
 
--- a risk limit is a number of these, of which a risk of one has so many
+-- a risk limit is a number of these, and a risk of one has this many
 abbrev pub millionths_in_one : ℕ
 millionths_in_one = 1000000
 
@@ -16,8 +16,8 @@ module _ (over : ℕ) (under : ℕ → ℕ) where
   is_within limit values =
       nat_le (over ^ length values * millionths_in_one) (limit * product (map under values))
 
-  -- of the sequences that begin with what was drawn and go on with n draws more, how many have a product of at most limit
-  -- millionths, now or after some of these draws; values has the value of each card
+  -- of the sequences that begin with what was drawn and go on with n more draws, how many have a product of at most limit millionths, now
+  -- or after some of these draws; values has the value of each card
   abbrev pub reach : ℕ → List ℕ → List ℕ → ℕ → ℕ
   reach limit values drawn zero = if is_within limit drawn then 1 else 0
   reach limit values drawn (suc n) =

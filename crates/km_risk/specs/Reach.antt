@@ -25,7 +25,7 @@ abbrev pub some_prefix : {X : Type 0} → (List X → Bool) → List X → Bool
 some_prefix test draws = list_any test (prefixes draws)
 
 module _ (cards margin gamma limit : ℕ) where
-  -- of the sequences that begin with what was drawn and go on with n draws more, how many have an exact risk of at most
-  -- limit millionths, now or after some of these draws; the list has the discrepancy of each card
+  -- of the sequences that begin with what was drawn and go on with n more draws, how many have an exact risk of at most limit millionths,
+  -- now or after some of these draws; the list has the discrepancy of each card
   abbrev pub reach : List ℕ → List ℕ → ℕ → ℕ
   reach = product_reach (numerator cards margin gamma) (denominator cards margin gamma) limit

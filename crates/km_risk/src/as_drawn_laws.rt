@@ -22,7 +22,7 @@ pub fn within_as_drawn()
     ensures { WithinAsDrawnLaw }
 {}
 
-/// Where an assertion isn't true of the cards, at most `limit` millionths of all sequences of draws ever have a printed risk within the
+/// If an assertion isn't true of the cards, at most `limit` millionths of all sequences of draws ever have a printed risk within the
 /// limit.
 pub fn as_drawn_risk_limit()
     ensures { AsDrawnRiskLimitLaw }

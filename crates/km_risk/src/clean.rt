@@ -25,13 +25,12 @@ fn first_within(setting: Setting, limit: u32) -> Option<u32>
     None
 }
 
-/// The least number of draws without a discrepancy, and no others, whose printed risk is at most `limit` millionths,
-/// for a manifest of `cards` cards, an assertion with a margin of `margin` votes, and `gamma` thousandths.
+/// The least number of draws without a discrepancy, and no others, whose printed risk is at most `limit` millionths, for a manifest of
+/// `cards` cards, an assertion with a margin of `margin` votes, and `gamma` thousandths.
 ///
-/// `None` exactly where more draws than there are cards, or more than `MOST_DRAWS`, are needed.
+/// `None` exactly if more draws than there are cards, or more than `MOST_DRAWS`, are needed.
 ///
-/// Bounds of the risk mostly tell it in about as many steps as the number has binary digits. Where they leave a doubt, each
-/// draw is a step.
+/// Bounds of the risk mostly give it in about as many steps as the number has binary digits. If they leave a doubt, each draw is a step.
 pub fn clean_draws(cards: u32, margin: u32, gamma: u32, limit: u32) -> Option<u32>
     requires setting { IsSetting cards margin gamma }
     requires limit { (1 ≤ limit) × (limit ≤ GREATEST_LIMIT) }

@@ -25,8 +25,8 @@ pub struct Counts {
     pub n4: u32,
 }
 
-/// The printed risk of the draws, in units of 10^-18, for a manifest of `cards` cards, an assertion with a margin
-/// of `margin` votes, and `gamma` thousandths.
+/// The printed risk of the draws, in units of 10^-18, for a manifest of `cards` cards, an assertion with a margin of `margin` votes, and
+/// `gamma` thousandths.
 ///
 /// The draws with d of 4 are taken first, then those with 3, 2, 1 and 0. Each step is rounded up.
 pub fn risk(counts: &Counts, cards: u32, margin: u32, gamma: u32) -> u64

@@ -9,9 +9,9 @@ const UNITS: u128 = 18_446_744_073_709_551_616;
 /// A factor below one, as a fraction.
 #[derive(Clone, Copy)]
 pub struct Falling {
-    /// What stands above the line.
+    /// The numerator.
     pub over: u64,
-    /// What stands below it.
+    /// The denominator.
     pub under: u64,
     /// The factor in units, rounded down.
     pub scaled: u64,

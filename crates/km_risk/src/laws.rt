@@ -21,7 +21,7 @@ pub fn all_counted()
     ensures { AllCountedLaw }
 {}
 
-/// Where a larger value never has a larger factor, the product of the same draws is no larger at larger values of the cards.
+/// If a larger value never has a larger factor, the product of the same draws is no larger at larger values of the cards.
 pub fn larger_values()
     ensures { LargerValuesLaw }
 {}
@@ -36,7 +36,7 @@ pub fn at_most_one()
     ensures { AtMostOneLaw }
 {}
 
-/// The printed risk is at least the exact one, or one where that is less.
+/// The printed risk is at least the exact one, or one if that is less.
 pub fn not_below()
     ensures { NotBelowLaw }
 {}
@@ -66,8 +66,7 @@ pub fn reaching_of_any_factor()
     ensures { ProductReachLaw }
 {}
 
-/// Where factors have a mean of at most one, at most `limit` millionths of all sequences of draws ever have a product within the
-/// limit.
+/// If factors have a mean of at most one, at most `limit` millionths of all sequences of draws ever have a product within the limit.
 pub fn counting_of_any_factor()
     ensures { ProductCountingLaw }
 {}
@@ -77,14 +76,14 @@ pub fn reaching()
     ensures { ReachLaw }
 {}
 
-/// Where an assertion isn't true of the cards, at most `limit` millionths of all sequences of draws ever have an exact
-/// risk within the limit.
+/// If an assertion isn't true of the cards, at most `limit` millionths of all sequences of draws ever have an exact risk within the
+/// limit.
 pub fn counting()
     ensures { CountingLaw }
 {}
 
-/// Where an assertion isn't true of the cards, at most `limit` millionths of all sequences of draws ever have a printed
-/// risk within the limit.
+/// If an assertion isn't true of the cards, at most `limit` millionths of all sequences of draws ever have a printed risk within the
+/// limit.
 pub fn risk_limit()
     ensures { RiskLimitLaw }
 {}

@@ -3,7 +3,7 @@ use Rattle.std.specs.Prelude.{◌≡◌, ◌≤◌, ◌-◌, ◌%◌, ◌==◌, 
 use Rattle.irv_base.specs.Names.{Id, is_name, is_same}
 use Rattle.ballot_reader.specs.Ids.{digest}
 
--- the place of an id in a table of so many
+-- the place of an id in a table with this many places
 abbrev pub place_in : ℕ → Id → ℕ
 place_in places id = digest id % places
 

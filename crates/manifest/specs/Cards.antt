@@ -6,7 +6,7 @@ use Rattle.manifest.specs.declared.card.Card.{Card}
 use Rattle.manifest.specs.declared.limits.TheConstants.{MOST_BATCH_BYTES, MOST_BATCH_CARDS}
 use Rattle.irv_base.specs.declared.limits.TheConstants.{MOST_CARDS}
 
--- the batch with number i has the id ids i and so many cards as counts i
+-- the batch with number i has the id ids i and counts i cards
 pub record Batches : Type 0 where
   pub ids : List Id
   pub counts : List ℕ

@@ -1,4 +1,4 @@
--- What a manifest keeps beside its batches: the number of the first card of each, and the number of all.
+-- What a manifest keeps besides its batches: the number of the first card of each, and the number of all.
 use Rattle.std.specs.Prelude.{◌≡◌, ◌+◌, ◌≤◌, ℕ, List, [], ◌∷◌, length}
 use Rattle.std.specs.List.{sum}
 use Rattle.irv_base.specs.Names.{Id}

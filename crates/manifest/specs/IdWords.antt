@@ -8,7 +8,7 @@ use Rattle.irv_base.specs.declared.limits.TheConstants.{MOST_NAME_BYTES}
 unfoldable pub word_at : List ℕ → ℕ → ℕ
 word_at text at = from_be_bytes w64 (take 8 (drop at text))
 
--- an id with zeros behind it
+-- an id followed by zeros
 abbrev pub filled : Id → List ℕ
 filled id = id ++ replicate (MOST_NAME_BYTES - length id) 0
 

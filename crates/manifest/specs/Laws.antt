@@ -30,7 +30,7 @@ CardIdsDiffer =
 
 -- ---- linked ballots
 
--- of the card that a ballot's id names, the ballot's ranking is recorded
+-- the ballot's ranking is recorded for the card that the ballot's id names
 abbrev pub BallotsAreLinked : Type 0
 BallotsAreLinked =
     (batches : Batches) (file : BallotFile) (i k : ℕ) (id : Id) (ranking : List ℕ) →

@@ -1,4 +1,4 @@
--- What a manifest says, or why and where it is refused.
+-- What a manifest says, or why and at which place it is refused.
 use Rattle.std.specs.Prelude.{ℕ, ◌+◌, Bool, false, not, ◌&&◌, ◌||◌, nat_le, if◌then◌else◌, List, [], ◌∷◌, ◌++◌, Option, Some, None, Result, Ok, Err, codes}
 use Rattle.std.specs.List.{sum}
 use Rattle.csv_rows.specs.Fields.{numbered_records}
@@ -22,7 +22,7 @@ is_header (first ∷ second ∷ next ∷ rest) = false
 
 -- ---- a batch's record: its id, and the number of its cards
 
--- the batch with its number of cards, or the rule that the number breaks behind so many other cards
+-- the batch with its number of cards, or the rule that the number breaks after this many other cards
 abbrev pub batch_with : Id → ℕ → Option ℕ → Result Batch MRule
 batch_with id others None = Err M3
 batch_with id others (Some n) =
@@ -30,7 +30,7 @@ batch_with id others (Some n) =
     (if nat_le (others + n) MOST_CARDS then Ok (record { id = id; cards = n })
     else Err M5) else Err M3
 
--- the batch, or the first rule that its record breaks, after batches with these ids and so many cards
+-- the batch, or the first rule that its record breaks, after batches with these ids and this many cards
 abbrev pub batch_of : List Id → ℕ → Fields → Result Batch MRule
 batch_of ids others [] = Err M2
 batch_of ids others (id ∷ []) = Err M2

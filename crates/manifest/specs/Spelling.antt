@@ -25,7 +25,7 @@ pub record Spells (rows : List Fields) (batches : Batches) : Type 0 where
 
 -- ---- what is broken
 
--- the number that is written so; 0, which counts nothing, where none is
+-- the number that is written so; 0, which counts nothing, if there is none
 abbrev pub number_or_0 : Option ℕ → ℕ
 number_or_0 None = 0
 number_or_0 (Some n) = n
@@ -39,8 +39,8 @@ row_cards [] = 0
 row_cards (id ∷ []) = 0
 row_cards (id ∷ number ∷ rest) = number_or_0 (number_of number)
 
--- the first rule that a batch's record breaks, behind the records of other batches: it has two fields; its id is one, and stood in none
--- of them; it has a number of cards, and with theirs it isn't too many
+-- the first rule that a batch's record breaks, after the records of other batches: it has two fields; its id is one, and was in none of
+-- them; it has a number of cards, and with theirs it isn't too many
 abbrev pub broken_rule : List Fields → Fields → Option MRule
 broken_rule before [] = Some M2
 broken_rule before (id ∷ []) = Some M2

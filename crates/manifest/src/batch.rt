@@ -73,7 +73,7 @@ fn batch_with(id: Name, others: u32, number: &[u8]) -> Result<Batch, MRule>
     }
 }
 
-/// The batch of a record, or the first rule that the record breaks, after batches with these ids and so many cards. The id of the batch
+/// The batch of a record, or the first rule that the record breaks, after batches with these ids and this many cards. The id of the batch
 /// is put last among them.
 pub fn batch_of(
     ids: &mut BatchIds,

@@ -15,10 +15,10 @@ use std::collections::BTreeMap;
 use std::hash::{FoldHasher, Hasher};
 use std::marker::Model;
 
-/// The ids of batches, none of which stands twice.
+/// The ids of batches, all different.
 ///
-/// Each id has a place in a table, and the first one of a place is found there. Which ids share a place can be foreseen, and a file may
-/// have many of these: those that come later to their place are kept in order, so that none is slow to find.
+/// Each id has a place in a table, and the first one of a place is found there. The author of a file can foresee which ids share a place,
+/// and a file may have many of them. So those that come later to their place are kept in order, and none is slow to find.
 ///
 /// To a contract it is the list of the ids.
 #[derive(Drop)]
@@ -55,7 +55,7 @@ fn digest(id: &[u8]) -> u64
     hasher.finish()
 }
 
-// The place of an id in a table of so many.
+// The place of an id in a table with this many places.
 fn place_in(places: usize, id: &[u8]) -> usize
     requires { 1 ≤ places }
     ensures place { result ≡ place_in places id.now }
@@ -64,7 +64,7 @@ fn place_in(places: usize, id: &[u8]) -> usize
     (digest(id) % places as u64) as usize
 }
 
-// The index that stands under the words of an id: this one, if none stood there.
+// The index that is kept under the words of an id: this one, if none was there.
 fn index_under(
     later: &mut BTreeMap<IdWords, u32>,
     words: IdWords,
@@ -120,7 +120,7 @@ impl BatchIds {
         }
     }
 
-    /// Puts an id last if it isn't one of them, and answers whether it wasn't. As many as `u32::MAX` are want of memory.
+    /// Puts an id last if it isn't one of them, and answers whether it wasn't. For as many as `u32::MAX` the answer is `Memory`.
     pub fn put(&mut self, id: Name) -> Result<bool, Memory>
         ensures new { IfOk result (λ new. new ≡ not (is_among self.old id)) }
         ensures put { IfOk result (λ new.

@@ -12,7 +12,7 @@ pub enum MRule {
     M2,
     /// The number of cards of a batch.
     M3,
-    /// The id of a batch, and that none stands twice.
+    /// The id of a batch, and that all are different.
     M4,
     /// The number of all cards.
     M5,

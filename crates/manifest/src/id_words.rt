@@ -10,10 +10,10 @@ use irv_base::{MOST_NAME_BYTES, Name};
 use std::cmp::Ordering;
 use std::marker::Model;
 
-// So many words have room for the longest id.
+// This many words have room for the longest id.
 const WORDS: usize = 8;
 
-/// The bytes of an id in words, with zeros behind the last byte: two of these are compared in a few steps.
+/// The bytes of an id in words, followed by zeros: two of these are compared in a few steps.
 ///
 /// To a contract it is the list of the words. No two ids have the same.
 #[derive(Clone, Copy)]

@@ -29,7 +29,7 @@ pub fn links_differ()
     ensures { LinksDiffer }
 {}
 
-/// Records are read as batches exactly where they spell them: the header, and a record of an id and a number for each.
+/// Records are read as batches exactly if they spell them: the header, and a record of an id and a number for each.
 pub fn records_spell_batches()
     ensures { RecordsSpellBatches }
 {}

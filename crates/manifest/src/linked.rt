@@ -13,7 +13,7 @@ use irv_base::Rankings;
 use std::alloc::Global;
 use std::marker::Model;
 
-// The number of a card's ballot where it has none. Others count from 1.
+// The number of a card's ballot if it has none. Others count from 1.
 const NO_BALLOT: u32 = 0;
 
 /// The cards of a manifest, each with what a ballot file has of it.

@@ -1,4 +1,4 @@
--- The laws of plurality contests, and what their risk limit stands on.
+-- The laws of plurality contests, and what their risk limit follows from.
 use Rattle.std.specs.Prelude.{◌≡◌, ◌≢◌, ◌⊎◌, ◌↔◌, ℕ, ◌+◌, ◌*◌, ◌^◌, ◌<◌, ◌≤◌, List, length, sum_by, count_by, All, Ok, Err}
 use Rattle.std.specs.List.{range_with_len}
 use Rattle.irv_base.specs.Candidates.{all_but}
@@ -19,13 +19,13 @@ use Rattle.plurality.specs.RiskLimit.{ArePublished, HaveAnother}
 
 -- ==== the outcome
 
--- a candidate has won exactly where each other has fewer first preferences
+-- a candidate has won exactly if each other has fewer first preferences
 abbrev pub WonLaw : Type 0
 WonLaw =
     (n winner : ℕ) (records : List (List ℕ)) → winner < n →
     (WinsPlurality n records winner ↔ (outcome_of n records ≡ Ok (won_by n records winner)))
 
--- there is a tie exactly where there is no outcome, and it is this one
+-- there is a tie exactly if there is no outcome, and it is this one
 abbrev pub TieLaw : Type 0
 TieLaw =
     (n : ℕ) (records : List (List ℕ)) (tie : Tie) → 1 ≤ n →
@@ -40,8 +40,8 @@ LeadLaw =
     sum_by (lead winner loser) records + first_preferences records loser
     ≡ length records + first_preferences records winner
 
--- all claims are true of any rankings, with values of more than 1 in the mean, exactly where the winner has strictly more first
--- preferences than each other
+-- all claims are true of any rankings, with a mean value of more than 1, exactly if the winner has strictly more first preferences than
+-- each other
 abbrev pub WinnerIsFirst : Type 0
 WinnerIsFirst =
     (n : ℕ) (outcome : Outcome) (records : List (List ℕ)) →
@@ -49,7 +49,7 @@ WinnerIsFirst =
     (All (λ value. length records < sum_by value records) (values_of outcome)
     ↔ WinsPlurality n records outcome.winner)
 
--- of any rankings either the winner has won, or another has as many first preferences
+-- for any rankings either the winner has won, or another has as many first preferences
 abbrev pub WonOrAnother : Type 0
 WonOrAnother =
     (n winner : ℕ) (actual : List (List ℕ)) →
@@ -69,7 +69,7 @@ pub record HasRivals (n : ℕ) (outcome : Outcome) : Type 0 where
   pub losers_are : outcome.losers ≡ all_but n outcome.winner
   pub margin_each : length outcome.margins ≡ length outcome.losers
 
--- the risk limit holds of such claims, whoever made them, where each margin is that of its claim over the records
+-- the risk limit holds for such claims, however they were made, if each margin is that of its claim over the records
 abbrev pub ClaimsRiskLimit : Type 0
 ClaimsRiskLimit =
     (limit gamma n draws : ℕ) (outcome : Outcome) (recorded : List Recorded)
@@ -79,7 +79,7 @@ ClaimsRiskLimit =
     AreSignedOff limit gamma (claims_of outcome) recorded actual draws signed →
     length signed * millionths_in_one ≤ limit * length recorded ^ draws
 
--- the risk limit as a count of the listed sequences, where what is read of the cards is fixed before anything is drawn
+-- the risk limit as a count of the listed sequences, if what is read of the cards is fixed before anything is drawn
 abbrev pub CountedRiskLimit : Type 0
 CountedRiskLimit =
     (limit gamma n draws : ℕ) (outcome : Outcome) (recorded : List Recorded)

@@ -7,7 +7,7 @@ use Rattle.irv_base.specs.Records.{is_first}
 abbrev pub first_preferences : List (List ℕ) → ℕ → ℕ
 first_preferences records c = count_by (λ ranking. is_first ranking c) records
 
--- of n candidates, each other one has fewer first preferences than the winner
+-- among n candidates, each other one has fewer first preferences than the winner
 abbrev pub WinsPlurality : ℕ → List (List ℕ) → ℕ → Type 0
 WinsPlurality n records winner =
     (other : ℕ) → other < n → other ≢ winner →

@@ -1,18 +1,18 @@
--- The risk limit of the audit of a plurality contest, on one page: `PluralityRiskLimit`, at the end, is what is promised; the records
--- before it are the premises. What the terms are (`AreTerms`) and what is counted (`AreSignedOff`) stands in
+-- The risk limit of the audit of a plurality contest, on one page. `PluralityRiskLimit`, the last record, is the promise; the records
+-- before it are the premises. The terms (`AreTerms`) and what is counted (`AreSignedOff`) are defined in
 -- `session_state/specs/RiskOfValues.antt`, for claims of any kind: this is one case of `ValuesRiskLimit` there.
 --
 -- Ballots and a manifest of the cards are published. The ballots say who has won, and there is a claim for each loser: that the winner
--- has more first preferences (`specs/Plural.antt`). Cards are drawn by their numbers, each time from all of them; a drawn card is looked
+-- has more first preferences (`specs/Plural.antt`). Cards are drawn by their numbers, each time from all of them. A drawn card is looked
 -- for, its ranking is read by hand, and it is compared with its record. At the end of a round the audit may be signed off. Suppose that
--- on the cards another candidate has as many first preferences as the winner, or more. Then of all sequences of n cards those are few
--- on which the audit can be signed off, at whichever draw.
+-- on the cards another candidate has as many first preferences as the winner, or more. Then the audit can be signed off, at any draw, on
+-- few of all sequences of n cards.
 --
 -- Files, limit and gamma are given first, and the sequences are counted after: so in an audit they are fixed and published before the
--- seed is known, as in an audit by assertions (`audit_laws/specs/RiskLimit.antt` has numbers). There is one seed: an audit that is
--- begun anew with another one is the same audit's second try. Where the rounds end may be left open.
+-- seed is known, as in an audit by assertions (`audit_laws/specs/RiskLimit.antt` has numbers). There is one seed: an audit that begins
+-- again with another one is the same audit's second try. The ends of the rounds may be left open.
 --
--- It is a count, and speaks of no chance: that one sequence is drawn as easily as another is up to the seed.
+-- It is a count, and says nothing about chance: that every sequence is drawn as easily as every other is up to the seed.
 use Rattle.std.specs.Prelude.{◌≢◌, ◌≡◌, ℕ, ◌*◌, ◌^◌, ◌<◌, ◌≤◌, List, length, None, Ok}
 use Rattle.ballot_reader.specs.Ballots.{BallotFile, IsSound as AreSound}
 use Rattle.manifest.specs.Cards.{Batches, AreBatches, cards_of}

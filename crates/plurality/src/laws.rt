@@ -3,18 +3,18 @@ ghost use Rattle.plurality.specs.Laws.{ClaimsRiskLimit, CountedRiskLimit, LeadLa
 ghost use Rattle.plurality.specs.Laws.{TieLaw, WinnerIsFirst, WonLaw, WonOrAnother};
 ghost use Rattle.plurality.specs.RiskLimit.{PluralityRiskLimit};
 
-/// Where another candidate has as many first preferences on the cards, or more, the audit can be signed off on at most
-/// `limit` millionths of all sequences of `n` cards.
+/// If another candidate has as many first preferences on the cards, or more, the audit can be signed off on at most `limit` millionths of
+/// all sequences of `n` cards.
 pub fn plurality_risk_limit()
     ensures { PluralityRiskLimit }
 {}
 
-/// The risk limit of the claims alone, where each margin is that of its claim.
+/// The risk limit of the claims alone, if each margin is that of its claim.
 pub fn claims_risk_limit()
     ensures { ClaimsRiskLimit }
 {}
 
-/// The same as a count of the listed sequences, where the readings of the cards don't depend on the draws.
+/// The same as a count of the listed sequences, if the readings of the cards don't depend on the draws.
 pub fn counted_risk_limit()
     ensures { CountedRiskLimit }
 {}
@@ -24,12 +24,12 @@ pub fn published_are_claims()
     ensures { PublishedAreClaims }
 {}
 
-/// A contest has an outcome exactly where one candidate has more first preferences than each other.
+/// A contest has an outcome exactly if one candidate has more first preferences than each other.
 pub fn won()
     ensures { WonLaw }
 {}
 
-/// It has none exactly where two candidates or more share the greatest number: the tie is theirs.
+/// It has none exactly if two candidates or more share the greatest number: the tie is theirs.
 pub fn tie()
     ensures { TieLaw }
 {}
@@ -39,12 +39,12 @@ pub fn lead()
     ensures { LeadLaw }
 {}
 
-/// All claims are true exactly where the winner has strictly more first preferences than each other candidate.
+/// All claims are true exactly if the winner has strictly more first preferences than each other candidate.
 pub fn winner_is_first()
     ensures { WinnerIsFirst }
 {}
 
-/// Of any rankings the winner has won, or another has as many first preferences.
+/// For any rankings the winner has won, or another has as many first preferences.
 pub fn won_or_another()
     ensures { WonOrAnother }
 {}

@@ -32,7 +32,7 @@ fn margins(
 
 /// The winner of the contest, if one candidate has more first preferences than each other, with the losers and the margins.
 ///
-/// It is refused where two or more share the greatest number, also where no ballot has a preference.
+/// It is refused if two or more share the greatest number, also if no ballot has a preference.
 pub fn plurality(alloc: Global, b: &Ballots) -> Result<Plural, PluralFault>
     ensures outcome { IfOk result (λ plural.
         outcome_of (length b.now.candidates) b.now.rankings ≡ Ok plural) }

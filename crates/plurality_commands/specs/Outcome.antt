@@ -13,16 +13,16 @@ use Rattle.plurality.specs.Plural.{Outcome, Tie, outcome_of}
 abbrev pub outcome_in : BallotFile → Result Outcome Tie
 outcome_in ballots = outcome_of (length ballots.candidates) ballots.rankings
 
--- a tie is told as that of a first round: who shares the greatest number of first preferences, and that number
+-- a tie is printed as that of a first round: who shares the greatest number of first preferences, and that number
 abbrev pub tied : BallotFile → Tie → Verdict
 tied ballots tie = Answered TieKind (tie_text ballots.candidates 1 tie.tied tie.tally)
 
--- this verdict tells of the tie
+-- this verdict has the tie
 abbrev pub TellsOfTie : BallotFile → Verdict → Type 0
 TellsOfTie ballots verdict =
     (tie : Tie) × (outcome_in ballots ≡ Err tie) × (verdict ≡ tied ballots tie)
 
--- the script that goes on with the outcome, and else ends with the tie
+-- the script that goes on with the outcome, and otherwise ends with the tie
 abbrev pub if_won : BallotFile → (Outcome → Script) → Script
 if_won ballots next = go_on (told (tied ballots) (outcome_in ballots)) next
 

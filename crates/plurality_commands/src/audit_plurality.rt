@@ -6,6 +6,7 @@ ghost use Rattle.manifest.specs.Linked.{linked_of};
 ghost use Rattle.cli_base.specs.Accounts.{IsAccountedFor};
 ghost use Rattle.cli_base.specs.Begun.{HasCome};
 ghost use Rattle.cli_base.specs.Due.{due};
+ghost use Rattle.cli_base.specs.Faults.{IsFaultTold};
 ghost use Rattle.cli_base.specs.Script.{ByDesk, Runs};
 ghost use Rattle.input_files.specs.Judged.{IsJudged};
 ghost use Rattle.session_rounds.specs.Rounds.{MayGoOn};
@@ -25,7 +26,7 @@ use session_rounds::{
 use session_state::{Session, has_facts_of};
 use std::alloc::Global;
 
-/// The session with one round more, up to so many draws in all, by the claims of the ballots' outcome.
+/// The session with one more round, up to this number of draws in all, by the claims of the ballots' outcome.
 pub fn answer<D: Desk>(
     alloc: Global,
     desk: &mut D,
@@ -33,7 +34,7 @@ pub fn answer<D: Desk>(
 ) -> Result<Answer, Refusal>
     requires { task.now.draws ≤ MOST_DRAWS }
     ensures held { D.held desk.new ≡ D.held desk.old }
-    ensures later { D.faults desk.old ≤ D.faults desk.new }
+    ensures faults { IsFaultTold (D.faults desk.old) (D.faults desk.new) (due result).status }
     ensures due { HasCome
         (ByDesk (D.held desk.old) (Rose (D.faults desk.old) (D.faults desk.new)))
         (D.served desk.old) (D.served desk.new)
@@ -69,7 +70,7 @@ fn after_session<D: Desk>(
 ) -> Result<Answer, Refusal>
     requires { MayGoOn task.now.draws session }
     ensures held { D.held desk.new ≡ D.held desk.old }
-    ensures later { D.faults desk.old ≤ D.faults desk.new }
+    ensures faults { IsFaultTold (D.faults desk.old) (D.faults desk.new) (due result).status }
     ensures due { HasCome
         (ByDesk (D.held desk.old) (Rose (D.faults desk.old) (D.faults desk.new)))
         (D.served desk.old) (D.served desk.new)
@@ -91,7 +92,7 @@ fn after_ballots<D: Desk>(
 ) -> Result<Answer, Refusal>
     requires { MayGoOn task.now.draws session }
     ensures held { D.held desk.new ≡ D.held desk.old }
-    ensures later { D.faults desk.old ≤ D.faults desk.new }
+    ensures faults { IsFaultTold (D.faults desk.old) (D.faults desk.new) (due result).status }
     ensures due { HasCome
         (ByDesk (D.held desk.old) (Rose (D.faults desk.old) (D.faults desk.new)))
         (D.served desk.old) (D.served desk.new)
@@ -122,7 +123,7 @@ fn count<D: Desk>(
     requires may { MayGoOn task.now.draws session }
     requires linked { cards.now.linked ≡ linked_of cards.now.manifest ballots.now }
     ensures held { D.held desk.new ≡ D.held desk.old }
-    ensures later { D.faults desk.old ≤ D.faults desk.new }
+    ensures faults { IsFaultTold (D.faults desk.old) (D.faults desk.new) (due result).status }
     ensures due { HasCome
         (ByDesk (D.held desk.old) (Rose (D.faults desk.old) (D.faults desk.new)))
         (D.served desk.old) (D.served desk.new)
@@ -149,7 +150,7 @@ fn after_count<D: Desk>(
     requires linked { cards.now.linked ≡ linked_of cards.now.manifest ballots.now }
     requires counted { outcome_in ballots.now ≡ Ok plural.now }
     ensures held { D.held desk.new ≡ D.held desk.old }
-    ensures later { D.faults desk.old ≤ D.faults desk.new }
+    ensures faults { IsFaultTold (D.faults desk.old) (D.faults desk.new) (due result).status }
     ensures due { HasCome
         (ByDesk (D.held desk.old) (Rose (D.faults desk.old) (D.faults desk.new)))
         (D.served desk.old) (D.served desk.new)

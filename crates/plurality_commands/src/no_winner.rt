@@ -30,7 +30,7 @@ pub(crate) fn no_winner(
     }
 }
 
-// A tie is told as one of a first round: who shares the greatest number of first preferences, and that number.
+// A tie is printed as one of a first round: who shares the greatest number of first preferences, and that number.
 fn tie_answer(alloc: Global, names: &[Name], tied: CandSet, tally: u32) -> Result<Answer, Refusal>
     requires { length names.now ≤ ROOM }
     ensures { IsOneOrMemory (λ verdict.

@@ -6,6 +6,7 @@ ghost use Rattle.manifest.specs.Linked.{first_without_card};
 ghost use Rattle.cli_base.specs.Accounts.{IsAccountedFor};
 ghost use Rattle.cli_base.specs.Begun.{HasCome};
 ghost use Rattle.cli_base.specs.Due.{due, IsOneOrMemory};
+ghost use Rattle.cli_base.specs.Faults.{IsFaultTold};
 ghost use Rattle.cli_base.specs.Script.{ByDesk, Runs};
 ghost use Rattle.command.specs.Limits.{IsUpTo};
 ghost use Rattle.plurality_commands.specs.OpenPlurality.{after_ballots, digests_of, opened, opened_or_tied, script};
@@ -44,7 +45,7 @@ pub fn answer<D: Desk>(
     requires limit { IsUpTo GREATEST_LIMIT task.now.limit }
     requires gamma { IsUpTo GREATEST_GAMMA task.now.gamma }
     ensures held { D.held desk.new ≡ D.held desk.old }
-    ensures later { D.faults desk.old ≤ D.faults desk.new }
+    ensures faults { IsFaultTold (D.faults desk.old) (D.faults desk.new) (due result).status }
     ensures due { HasCome
         (ByDesk (D.held desk.old) (Rose (D.faults desk.old) (D.faults desk.new)))
         (D.served desk.old) (D.served desk.new)
@@ -67,7 +68,7 @@ fn after_ballots<D: Desk>(
     requires limit { IsUpTo GREATEST_LIMIT task.now.limit }
     requires gamma { IsUpTo GREATEST_GAMMA task.now.gamma }
     ensures held { D.held desk.new ≡ D.held desk.old }
-    ensures later { D.faults desk.old ≤ D.faults desk.new }
+    ensures faults { IsFaultTold (D.faults desk.old) (D.faults desk.new) (due result).status }
     ensures due { HasCome
         (ByDesk (D.held desk.old) (Rose (D.faults desk.old) (D.faults desk.new)))
         (D.served desk.old) (D.served desk.new)
@@ -117,7 +118,7 @@ fn open(
     ensures { IsOneOrMemory (λ verdict.
         verdict ≡ opened task.now ballots.now manifest.now digests plural.now) (due result) }
 {
-    // Asked for what their contracts tell of the ballots: a session may begin with the margins of their outcome.
+    // Asks for what their contracts say of the ballots: a session may begin with the margins of their outcome.
     let _ids = ballots.ids();
     let _candidates = ballots.candidates();
     let margins = plural.margins().to_vec(alloc)?;

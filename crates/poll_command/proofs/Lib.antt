@@ -3,3 +3,6 @@ pub mod Ending
 pub mod Answered
 pub mod Polls
 pub mod Polled
+pub mod EndLines
+pub mod EachAnswered
+pub mod EachPolls

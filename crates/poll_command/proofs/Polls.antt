@@ -24,7 +24,7 @@ use Rattle.poll_command.specs.Poll.{Polls, after_assertions, after_cover, after_
 
 -- ---- one end
 
-ended-agrees : (end : Option Verdict) (next : Script) → Agree Same next → Agree Same (unless_ended end next)
+pub ended-agrees : (end : Option Verdict) (next : Script) → Agree Same next → Agree Same (unless_ended end next)
 ended-agrees None next agree = agree
 ended-agrees (Some verdict) next agree = λ v w p q. ap outcome (p ∙ sym q)
 
@@ -44,11 +44,11 @@ module _ (task : PollTask) where
 
 -- ---- the kinds of its answers
 
-ended-kinds : (end : Option Verdict) (next : Script) → IfSome end (IsOfKind kinds) → AreOfKind kinds next → AreOfKind kinds (unless_ended end next)
+pub ended-kinds : (end : Option Verdict) (next : Script) → IfSome end (IsOfKind kinds) → AreOfKind kinds next → AreOfKind kinds (unless_ended end next)
 ended-kinds None next own each = each
 ended-kinds (Some verdict) next own each = λ v is. subst (IsOfKind kinds) (sym is) own
 
-uncovered-kind : (nodes : ℕ) (file : Content) → IfSome (uncovered nodes file) (IsOfKind kinds)
+pub uncovered-kind : (nodes : ℕ) (file : Content) → IfSome (uncovered nodes file) (IsOfKind kinds)
 uncovered-kind nodes file =
     by (first_over (candidate_count file) file.winner (assertions_of file) nodes) (standing_order (candidate_count file) file.winner (assertions_of file)) where
       by : (over : Option ℕ) (order : Option (List ℕ)) →
@@ -57,11 +57,11 @@ uncovered-kind nodes file =
       by None (Some order) = among kinds Differs refl
       by None None = tt
 
-yes-kind : (yes : Bool) (text : List ℕ) → IsOfKind kinds (Answered (confirmed_kind yes) text)
+pub yes-kind : (yes : Bool) (text : List ℕ) → IsOfKind kinds (Answered (confirmed_kind yes) text)
 yes-kind true text = among kinds Done refl
 yes-kind false text = among kinds Unconfirmed refl
 
-or-kind : (refused : Option Verdict) (verdict : Verdict) → IfSome refused (IsOfKind kinds) → IsOfKind kinds verdict → IsOfKind kinds (unwrap_or refused verdict)
+pub or-kind : (refused : Option Verdict) (verdict : Verdict) → IfSome refused (IsOfKind kinds) → IsOfKind kinds verdict → IsOfKind kinds (unwrap_or refused verdict)
 or-kind None verdict own is = is
 or-kind (Some other) verdict own is = own
 

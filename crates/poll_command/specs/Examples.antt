@@ -14,10 +14,10 @@ leads other = record { assertion = Neb 0 other; margin = 1 }
 abbrev pub file_of : List ℕ → Content
 file_of others = record files.three_candidates { winner = 0; claims = map leads others }
 
--- so many draws are for the winner
+-- this many draws are for the winner
 abbrev pub for_the_winner : ℕ → PollCounts
 for_the_winner draws = record { n0 = 0; n1 = 0; n2 = draws }
 
--- and so many for the other candidate, or of cards that can't be found
+-- and this many for the other candidate, or of cards that can't be found
 abbrev pub against_the_winner : ℕ → PollCounts
 against_the_winner draws = record { n0 = draws; n1 = 0; n2 = 0 }

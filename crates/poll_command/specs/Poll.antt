@@ -40,7 +40,7 @@ spent file last = Answered Spent (spent_at (id_of file.candidates last))
 abbrev pub standing : Content → List ℕ → Verdict
 standing file order = differs (stands (order_text file.candidates order))
 
--- how the call ends where the nodes don't suffice to tell, or an order stands
+-- how the call ends if the nodes aren't enough, or an order stands
 abbrev pub uncovered : ℕ → Content → Option Verdict
 uncovered nodes file =
     let n : ℕ = candidate_count file in
@@ -92,7 +92,7 @@ module _ (task : PollTask) (batches : Batches) (file : Content) (entries : List 
   abbrev pub answered : Verdict
   answered = Answered (confirmed_kind is_yes) poll_text
 
-  -- each drawn card has to be seen; then the poll tells what came of it
+  -- each drawn card has to be seen; then the poll prints its result
   abbrev pub Polls : Verdict → Type 0
   Polls verdict = verdict ≡ unwrap_or unseen answered
 

@@ -1,4 +1,4 @@
--- What the checker says of the assertions of a file, where the nodes suffice to tell.
+-- What the checker says of the assertions of a file, if the nodes are enough.
 use Rattle.std.specs.Prelude.{Option, None, Some, IsTrue, ⊤}
 use Rattle.irv_base.specs.Orders.{is_order}
 use Rattle.assertion_file.specs.Content.{Content, candidate_count}
@@ -12,7 +12,7 @@ abbrev pub IsOfFile : Content → Said → Type 0
 IsOfFile file Covered = ⊤
 IsOfFile file (Stands order) = IsTrue (is_order (candidate_count file) order)
 
--- how the call ends where one does
+-- how the call ends if one does
 abbrev pub unless_stands : Content → Said → Option Verdict
 unless_stands file Covered = None
 unless_stands file (Stands order) = Some (standing file order)

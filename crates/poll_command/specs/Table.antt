@@ -1,4 +1,4 @@
--- What a poll tells: its numbers, the counts and the risk of each claim, and whether all claims are confirmed.
+-- What a poll prints: its numbers, the counts and the risk of each claim, and whether all claims are confirmed.
 use Rattle.std.specs.Prelude.{ℕ, Bool, List, ◌++◌, codes}
 use Rattle.std.specs.Fmt.{decimal}
 use Rattle.irv_base.specs.Names.{Id}
@@ -27,7 +27,7 @@ claim_line assertion counts risk confirmed =
     assertion ++ codes " counts " ++ seen_counts_text counts ++ codes " risk " ++ risk_text risk
     ++ state_end confirmed
 
--- by these ids; it is confirmed where the risk is at most limit millionths
+-- by these ids; it is confirmed if the risk is at most limit millionths
 abbrev pub line_of : List Id → ℕ → Claim → PollCounts → ℕ → List ℕ
 line_of ids limit claim counts risk =
     claim_line (assertion_text ids claim.assertion) counts risk (is_risk_within limit risk)
@@ -37,7 +37,7 @@ line_of ids limit claim counts risk =
 abbrev pub last_line : Bool → List ℕ
 last_line confirmed = codes "confirmed " ++ yes_or_no confirmed ++ codes "\n"
 
--- over so many cards and draws; the limit is in millionths, gamma in thousandths
+-- over this many cards and draws; the limit is in millionths, gamma in thousandths
 module _ (file : Content) (cards draws limit gamma : ℕ) where
   abbrev pub poll_table : List PollCounts → List ℕ → Bool → List ℕ
   poll_table counts risks confirmed =

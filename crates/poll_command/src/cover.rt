@@ -34,7 +34,7 @@ fn said(alloc: Global, file: &AssertionFile, nodes: u32) -> Result<Verdict, Cove
     covered(alloc, n, file.winner(), &list, Budget::Nodes(nodes))
 }
 
-// How the call ends where an order stands, if one does.
+// How the call ends if an order stands.
 fn unless_stands(
     alloc: Global,
     file: &AssertionFile,
@@ -55,7 +55,7 @@ fn unless_stands(
     }
 }
 
-/// How the call ends where the assertions don't refute each such order within so many nodes, if they don't.
+/// How the call ends if the assertions don't refute each such order within this many nodes.
 pub(crate) fn unless_covered(
     alloc: Global,
     file: &AssertionFile,

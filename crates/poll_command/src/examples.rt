@@ -1,4 +1,4 @@
-//! Worked examples: what polls tell, and whether assertions prove their winner, computed by the checker.
+//! Worked examples: what polls print, and whether assertions prove their winner, computed by the checker.
 ghost use Rattle.std.specs.Prelude.{◌≡◌, ◌∷◌, ◌++◌, [], codes, false, None, Some};
 ghost use Rattle.cli_base.specs.Outcome.{Answered};
 ghost use Rattle.cli_base.specs.declared.outcome.AnswerKind.TheVariants.{Differs, Spent};
@@ -6,7 +6,7 @@ ghost use Rattle.poll_command.specs.Examples as examples;
 ghost use Rattle.poll_command.specs.Poll.{uncovered};
 ghost use Rattle.poll_command.specs.Table.{poll_table};
 
-/// A claim that five draws confirm at a limit of 0.05, beside one that a missing card doesn't.
+/// A claim that five draws confirm at a limit of 0.05, and one that a missing card keeps unconfirmed.
 pub fn two_claims()
     ensures { poll_table (examples.file_of (1 ∷ 2 ∷ []))
         1 5 50000 100
@@ -19,7 +19,7 @@ pub fn two_claims()
 {}
 
 /// That the first of three candidates has more votes than the second doesn't prove it wins: 2,1,3 stands. For the third candidate the
-/// suffixes 3 and 1,3 count, so that one node doesn't suffice. That it has more votes than the third too proves it.
+/// suffixes 3 and 1,3 count, so one node isn't enough. If it has more votes than the third too, that proves it.
 pub fn three_candidates()
     ensures stands { uncovered 2 (examples.file_of (1 ∷ [])) ≡
         Some (Answered Differs (codes "no: order 2,1,3 stands\n")) }

@@ -5,6 +5,7 @@ ghost use Rattle.cli_base.specs.Accounts.{IsAccountedFor};
 ghost use Rattle.cli_base.specs.Confirmed.{confirmed_kind};
 ghost use Rattle.cli_base.specs.Begun.{HasCome};
 ghost use Rattle.cli_base.specs.Due.{due, IsOneOrMemory};
+ghost use Rattle.cli_base.specs.Faults.{IsFaultTold};
 ghost use Rattle.cli_base.specs.Outcome.{Answered};
 ghost use Rattle.cli_base.specs.Script.{ByDesk, Runs};
 ghost use Rattle.command.specs.Poll.{IsWithinLimits};
@@ -23,11 +24,11 @@ use manifest::Manifest;
 use polling::{PollEnd, PollFault, poll};
 use std::alloc::Global;
 
-/// What a poll of the cards tells of the assertions, and whether it confirms all of them.
+/// What a poll of the cards says of the assertions, and whether it confirms all of them.
 pub fn answer<D: Desk>(alloc: Global, desk: &mut D, task: &PollTask) -> Result<Answer, Refusal>
     requires { IsWithinLimits task.now }
     ensures held { D.held desk.new ≡ D.held desk.old }
-    ensures later { D.faults desk.old ≤ D.faults desk.new }
+    ensures faults { IsFaultTold (D.faults desk.old) (D.faults desk.new) (due result).status }
     ensures due { HasCome
         (ByDesk (D.held desk.old) (Rose (D.faults desk.old) (D.faults desk.new)))
         (D.served desk.old) (D.served desk.new)
@@ -48,7 +49,7 @@ fn after_manifest<D: Desk>(
 ) -> Result<Answer, Refusal>
     requires { IsWithinLimits task.now }
     ensures held { D.held desk.new ≡ D.held desk.old }
-    ensures later { D.faults desk.old ≤ D.faults desk.new }
+    ensures faults { IsFaultTold (D.faults desk.old) (D.faults desk.new) (due result).status }
     ensures due { HasCome
         (ByDesk (D.held desk.old) (Rose (D.faults desk.old) (D.faults desk.new)))
         (D.served desk.old) (D.served desk.new)
@@ -73,7 +74,7 @@ fn after_cover<D: Desk>(
 ) -> Result<Answer, Refusal>
     requires { IsWithinLimits task.now }
     ensures held { D.held desk.new ≡ D.held desk.old }
-    ensures later { D.faults desk.old ≤ D.faults desk.new }
+    ensures faults { IsFaultTold (D.faults desk.old) (D.faults desk.new) (due result).status }
     ensures due { HasCome
         (ByDesk (D.held desk.old) (Rose (D.faults desk.old) (D.faults desk.new)))
         (D.served desk.old) (D.served desk.new)
@@ -107,7 +108,7 @@ fn poll_of(
     }
 }
 
-// The answer that tells of the poll.
+// The answer that prints the poll.
 fn poll_answer(
     alloc: Global,
     task: &PollTask,

@@ -1,4 +1,4 @@
-// What a poll tells.
+// What a poll prints.
 ghost use Rattle.std.specs.Prelude.{◌≡◌, ◌≤◌, ◌++◌, length, codes, IfOk, IsTrue, string_bytes};
 ghost use Rattle.irv_base.specs.declared.limits.TheConstants.{GREATEST_LIMIT, ROOM};
 ghost use Rattle.assertions.specs.Assertions.{is_proper};
@@ -111,7 +111,8 @@ fn add_claims(
     Ok(())
 }
 
-fn add_last(text: &mut String, confirmed: bool) -> Result<(), AllocError>
+/// Adds whether all claims are confirmed.
+pub(crate) fn add_last(text: &mut String, confirmed: bool) -> Result<(), AllocError>
     ensures { IfOk result (λ _.
         string_bytes text.new ≡ string_bytes text.old ++ last_line confirmed) }
 {
@@ -119,7 +120,7 @@ fn add_last(text: &mut String, confirmed: bool) -> Result<(), AllocError>
     writeln!(text, "confirmed {answer}")
 }
 
-/// The lines of a poll over a manifest of so many cards: its numbers, with gamma in thousandths and the limit in millionths, for each
+/// The lines of a poll over a manifest of this many cards: its numbers, with gamma in thousandths and the limit in millionths, for each
 /// assertion the counts of its seen values, the risk and whether it is confirmed, and whether all are. Every line ends with a line feed.
 pub fn poll_table(
     alloc: Global,

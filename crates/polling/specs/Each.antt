@@ -28,13 +28,13 @@ pub record IsGamma (gamma : ℕ) : Type 0 where
 abbrev pub IsMarginOf : Claim → Type 0
 IsMarginOf claim = 1 ≤ claim.margin
 
--- the gamma that fits a margin of so many votes among so many cards: 500 (cards / margin - 1), rounded to the nearest whole number, and
--- brought within its limits
+-- the gamma that fits a margin of this many votes among this many cards: 500 (cards / margin - 1), rounded to the nearest whole number,
+-- and brought within its limits
 abbrev pub best_gamma : ℕ → ℕ → ℕ
 best_gamma cards margin =
     min GREATEST_EACH_GAMMA (max 1 ((1000 * (cards - margin) + margin) / (2 * margin)))
 
--- this one, or where there is none the one that fits the margin of the claim
+-- this one, or if there is none the one that fits the margin of the claim
 abbrev pub gamma_of : Option ℕ → ℕ → Claim → ℕ
 gamma_of gamma cards claim = unwrap_or gamma (best_gamma cards claim.margin)
 
@@ -42,7 +42,7 @@ abbrev pub polled_claim : Option ℕ → ℕ → Claim → Polled
 polled_claim gamma cards claim =
     record { value = assorter_value claim.assertion; gamma = gamma_of gamma cards claim }
 
--- the claims of a file, over so many cards
+-- the claims of a file, over this many cards
 abbrev pub polled_of : Option ℕ → ℕ → Content → List Polled
 polled_of gamma cards file = map (polled_claim gamma cards) file.claims
 
@@ -53,7 +53,7 @@ module _ (limit gamma : ℕ) (values : List ℕ) where
   abbrev pub confirmed_at : Option ℕ
   confirmed_at = first_within 1 1 gamma limit values
 
-  -- how many draws it takes: those up to that one, or all where there is none
+  -- how many draws it takes: those up to that one, or all if there is none
   abbrev pub draws_of : ℕ
   draws_of = unwrap_or confirmed_at (length values)
 
@@ -90,7 +90,7 @@ module _ (limit : ℕ) (claims : List Polled) (seen : List Seen) (drawn : List �
       list_all (λ claim. is_some (confirmed_at limit claim.gamma (values_of seen drawn claim)))
       claims
 
-  -- how many draws are asked of: those up to the one that confirms the last claim, or all where some claim isn't confirmed
+  -- how many draws are needed: those up to the one that confirms the last claim, or all if some claim isn't confirmed
   abbrev pub asked : ℕ
   asked =
       most_of (map (λ claim. draws_of limit claim.gamma (values_of seen drawn claim)) claims)

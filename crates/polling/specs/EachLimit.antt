@@ -1,5 +1,5 @@
--- The risk limit of a poll that is looked at after each draw: `EachLimit`, at the end, is what is promised; the records before it are the
--- premises. They are those of `PollLimit`, with a gamma for each claim; when such a poll confirms (`is_each_confirmed`) stands in
+-- The risk limit of a poll that is looked at after each draw. `EachLimit`, the last record, is the promise; the records before it are the
+-- premises. They are those of `PollLimit`, with a gamma for each claim. When such a poll confirms (`is_each_confirmed`) is defined in
 -- `polling/specs/Each.antt`.
 --
 -- The candidates and the winner are those of the assertions, and the gammas are given first: so in a poll they are fixed and published
@@ -43,7 +43,7 @@ pub record AreEachTerms (limit : ℕ) (claims : List Polled) : Type 0 where
 
 -- ---- what is promised
 
--- of claims with values from 0 to 2, where one isn't true of the actual rankings: its values are at most 1 in the mean
+-- for claims with values from 0 to 2, of which one isn't true of the actual rankings: its values have a mean of at most 1
 abbrev pub EachValuesLimit : Type 0
 EachValuesLimit =
     (limit n : ℕ) (claims : List Polled) (actual sequences : List (List ℕ)) (claim : Polled) →
@@ -52,7 +52,7 @@ EachValuesLimit =
     AreEachConfirmed limit claims actual n sequences →
     length sequences * millionths_in_one ≤ limit * length actual ^ n
 
--- of assertions that prove a winner, where the actual rankings may elect another candidate
+-- for assertions that prove a winner, if the actual rankings may elect another candidate
 abbrev pub EachLimit : Type 0
 EachLimit =
     (candidates winner limit n : ℕ) (assertions : List Assertion) (claims : List Polled)
@@ -65,8 +65,8 @@ EachLimit =
 
 -- ---- which polls it counts
 
--- a poll that confirms each claim by the draws of a seed is counted, where each drawn card was read as it is; also among sequences of
--- more draws, however many the seed then gives
+-- a poll that confirms each claim by the draws of a seed is counted, if each drawn card was read as it was; also among longer sequences,
+-- however many draws the seed then gives
 abbrev pub EachIsCounted : Type 0
 EachIsCounted =
     (limit draws most : ℕ) (seed : List ℕ) (claims : List Polled) (entries : List Entry)

@@ -1,4 +1,4 @@
--- Laws of a poll beside its limit: which polls the limit counts, and that a poll is a comparison with another factor.
+-- Laws of a poll apart from its limit: which polls the limit counts, and that a poll is a comparison with another factor.
 use Rattle.std.specs.Prelude.{◌≡◌, ℕ, ◌+◌, ◌*◌, ◌≤◌, List, map, length, IsTrue}
 use Rattle.km_risk.specs.Counts.{counts_of}
 use Rattle.km_risk.specs.Factor.{numerator, denominator}
@@ -14,8 +14,8 @@ use Rattle.polling.specs.PollLimit.{MayBeConfirmed}
 
 -- ---- what is counted
 
--- a poll that confirms claims by the draws of a seed is counted, where each drawn card was read as it is; also among sequences of
--- more draws, however many the seed then gives
+-- a poll that confirms claims by the draws of a seed is counted, if each drawn card was read as it was; also among longer sequences,
+-- however many draws the seed then gives
 abbrev pub PolledIsCounted : Type 0
 PolledIsCounted =
     (limit gamma draws most : ℕ) (seed : List ℕ) (values : List (List ℕ → ℕ))

@@ -1,25 +1,25 @@
--- The risk limit of a poll: `PollLimit`, at the end, is what is promised; the records before it are the premises. What the terms are
--- (`AreTerms`) and what is read of the cards (`AreReadings`) stands in `session_state/specs/RiskOfValues.antt` and `Readings.antt`, which
+-- The risk limit of a poll. `PollLimit`, the last record, is the promise; the records before it are the premises. The terms (`AreTerms`)
+-- and what is read of the cards (`AreReadings`) are defined in `session_state/specs/RiskOfValues.antt` and `Readings.antt`; which
 -- assertions prove a winner (`Cover`) and which cards don't elect it (`MayElectAnother`) in `audit_laws/specs/Claims.antt` and
--- `RiskLimit.antt`, when a poll confirms (`is_confirmed`) in `polling/specs/Polls.antt`.
+-- `RiskLimit.antt`; when a poll confirms (`is_confirmed`) in `polling/specs/Polls.antt`.
 --
--- A manifest of the cards and assertions are published. Cards are drawn by their numbers, each time from all of them; a drawn card is
+-- A manifest of the cards and assertions are published. Cards are drawn by their numbers, each time from all of them. A drawn card is
 -- looked for, and its ranking is read by hand. After any draw the poll may be looked at. Suppose that the cards don't elect the winner
--- that the assertions prove, or that a tie among them could be broken so that they don't. Then of all sequences of n cards those are few
--- on which the poll confirms all assertions, at whichever draw. Nothing is asked of records, and nothing of margins.
+-- that the assertions prove, or that a tie among them could be broken so that they don't. Then the poll confirms all assertions, at any
+-- draw, on few of all sequences of n cards. Nothing is asked of records, and nothing of margins.
 --
 -- The candidates and the winner are those of the assertions: in a poll those of the assertion file, and so is the contest. That these are
 -- the candidates and the contest of the cards is no part of the law, and no command can see it.
 --
--- Assertions, limit and gamma are given first, and the sequences are counted after: so in a poll they are fixed and published before
--- the seed is known. Two choices of gamma together confirm on more sequences than either: of two cards that are in truth a tie, at a
--- limit of 250,600 millionths and seven draws, 32 with gamma 1 and 12 with gamma 500, and one or the other 34 of 128, where the limit
--- allows 32. There is one seed: a poll that is begun anew with another one is the same poll's second try. At how many draws it is
--- looked at may be left open.
+-- Assertions, limit and gamma are given first, and the sequences are counted after: so in a poll they are fixed and published before the
+-- seed is known. Two choices of gamma together confirm on more sequences than either alone. Take two cards that are in truth a tie, a
+-- limit of 250,600 millionths and seven draws: gamma 1 confirms on 32 of 128 sequences, gamma 500 on 12, and one or the other on 34, but
+-- the limit allows 32. There is one seed: a poll that begins again with another one is the same poll's second try. The draws at which it
+-- is looked at may be left open.
 --
 -- It is the counting law of a comparison with another factor (`PollIsComparison` and `FactorLaw` in `polling/specs/Laws.antt`,
--- `ProductCountingLaw` in `km_risk/specs/Laws.antt`). It is a count, and speaks of no chance: that one sequence is drawn as easily as
--- another is up to the seed.
+-- `ProductCountingLaw` in `km_risk/specs/Laws.antt`). It is a count, and says nothing about chance: that every sequence is drawn as
+-- easily as every other is up to the seed.
 use Rattle.std.specs.Prelude.{◌≢◌, ℕ, ◌*◌, ◌^◌, ◌≤◌, List, length, map, take, sum_by, All, AllPairs, Contains, IsTrue}
 use Rattle.assertions.specs.declared.assertion.Assertion.{Assertion}
 use Rattle.assertions.specs.Assorter.{assorter_value}
@@ -52,7 +52,7 @@ module _ (limit gamma : ℕ) (values : List (List ℕ → ℕ)) (actual : List (
 
 -- ---- what is promised
 
--- of claims with values from 0 to 2, where one isn't true of the actual rankings: its values are at most 1 in the mean
+-- for claims with values from 0 to 2, of which one isn't true of the actual rankings: its values have a mean of at most 1
 abbrev pub PollValuesLimit : Type 0
 PollValuesLimit =
     (limit gamma n : ℕ) (values : List (List ℕ → ℕ)) (actual sequences : List (List ℕ))
@@ -62,7 +62,7 @@ PollValuesLimit =
     AreConfirmed limit gamma values actual n sequences →
     length sequences * millionths_in_one ≤ limit * length actual ^ n
 
--- of assertions that prove a winner, where the actual rankings may elect another candidate
+-- for assertions that prove a winner, if the actual rankings may elect another candidate
 abbrev pub PollLimit : Type 0
 PollLimit =
     (candidates winner limit gamma n : ℕ) (assertions : List Assertion)

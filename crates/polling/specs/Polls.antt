@@ -1,7 +1,7 @@
 -- A poll of drawn cards: how often each seen value of an assertion's assorter came, and the risk of that.
 --
--- A draw with a seen value s has the factor (1/2 + g) / (s/2 + g), where g is gamma / 1000: that of a comparison with so large a
--- discrepancy, at one card and a margin of one vote.
+-- A draw with a seen value s has the factor (1/2 + g) / (s/2 + g), where g is gamma / 1000: that of a comparison with such a discrepancy,
+-- at one card and a margin of one vote.
 use Rattle.std.specs.Prelude.{◌≡◌, ℕ, ◌*◌, ◌==◌, Bool, nat_le, List, map, count_by, Some}
 use Rattle.std.specs.List.{list_all}
 use Rattle.km_risk.specs.declared.draws.Counts.{Counts}
@@ -65,7 +65,7 @@ as_poll_fault (NoRecordOf card k) = NoRecord card k
 as_poll_fault MemoryOf = Memory
 
 module _ (seed : List ℕ) (cards : ℕ) (entries : List Entry) (draws : ℕ) where
-  -- it is told of the first draw whose card has no record; memory may always be wanting
+  -- it names the first draw whose card has no record; memory may always be short
   abbrev pub IsPollFault : PollFault → Type 0
   IsPollFault (NoRecord card k) =
       (unseen_draw seed cards entries draws ≡ Some k) × (card ≡ drawn_card seed k cards)

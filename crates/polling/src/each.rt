@@ -43,7 +43,7 @@ pub struct EachEnd {
     pub confirmed: bool,
 }
 
-/// The gamma that fits a margin of so many votes among so many cards, in thousandths: 500 (cards / margin - 1), rounded to the
+/// The gamma that fits a margin of this many votes among this many cards, in thousandths: 500 (cards / margin - 1), rounded to the
 /// nearest whole number, from 1 to `GREATEST_EACH_GAMMA`.
 pub fn best_gamma(cards: u32, margin: u32) -> u32
     requires some { 1 ≤ margin }
@@ -88,7 +88,7 @@ fn claim_end(assertion: &Assertion, drawn: &[SeenCard], limit: u32, gamma: u32) 
     }
 }
 
-// The gamma of a claim: this one, or where there is none the one that fits its margin.
+// The gamma of a claim: this one, or if there is none the one that fits its margin.
 fn gamma_of(gamma: Option<u32>, cards: u32, claim: &Claim) -> u32
     requires margin { 1 ≤ claim.now.margin }
     requires few { cards ≤ MOST_CARDS }
@@ -177,11 +177,11 @@ fn poll_of(
     Ok(EachEnd { claims, confirmed })
 }
 
-/// Polls the cards of a manifest, with a look after each of so many draws with the seed: tells of each assertion of the file the first
-/// draw after which its printed risk is within the limit, with the counts of its seen values and the risk there. Each assertion has
-/// this gamma, or where there is none the one that fits the margin that the file says.
+/// Polls the cards of a manifest, with a look after each of this many draws with the seed. For each assertion of the file it gives the
+/// first draw after which its printed risk is within the limit, with the counts of its seen values and the risk there. Each assertion has
+/// this gamma, or if there is none the one that fits the margin that the file says.
 ///
-/// It is refused exactly where the card of a draw has no record among the seen, up to the draw that confirms the last assertion: the
+/// It is refused exactly if the card of a draw has no record among the seen, up to the draw that confirms the last assertion: at the
 /// first such draw.
 pub fn poll_each(
     alloc: Global,

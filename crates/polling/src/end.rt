@@ -72,10 +72,10 @@ fn are_confirmed(risks: &[u64], limit: u32) -> bool
     risks.iter().all(|risk| is_confirmed(*risk, limit))
 }
 
-/// Polls the cards of a manifest: so many draws with the seed, of each of which it is known what people saw. Tells how
-/// often each seen value came for each assertion of the file, and the risk; the margins of the file aren't used.
+/// Polls the cards of a manifest: this many draws with the seed, for each of which it is known what people saw. It gives how often each
+/// seen value came for each assertion of the file, and the risk; the margins of the file aren't used.
 ///
-/// It is refused exactly where the card of a draw has no record among the seen: the first such draw.
+/// It is refused exactly if the card of a draw has no record among the seen: at the first such draw.
 pub fn poll(
     alloc: Global,
     m: &Manifest,

@@ -4,13 +4,13 @@ ghost use Rattle.polling.specs.Laws.{FactorLaw, PollIsComparison, PolledIsCounte
 ghost use Rattle.polling.specs.EachLimit.{EachIsCounted, EachLimit, EachValuesLimit};
 ghost use Rattle.polling.specs.PollLimit.{PollLimit, PollValuesLimit};
 
-/// Where the actual rankings of the cards may elect another candidate than a set of assertions proves, the poll can confirm
-/// all of them on at most `limit` millionths of all sequences of `n` cards.
+/// If the actual rankings of the cards may elect another candidate than a set of assertions proves, the poll can confirm all of them on
+/// at most `limit` millionths of all sequences of `n` cards.
 pub fn poll_limit()
     ensures { PollLimit }
 {}
 
-/// The same of any claims, where one isn't true of the actual rankings.
+/// The same for any claims, if one isn't true of the actual rankings.
 pub fn poll_values_limit()
     ensures { PollValuesLimit }
 {}
@@ -30,13 +30,13 @@ pub fn factor()
     ensures { (gamma s : ℕ) → FactorLaw gamma s }
 {}
 
-/// Where the actual rankings of the cards may elect another candidate than a set of assertions proves, a poll that is looked at after
-/// each draw can confirm all of them on at most `limit` millionths of all sequences of `n` cards, whatever gamma each of them has.
+/// If the actual rankings of the cards may elect another candidate than a set of assertions proves, a poll that is looked at after each
+/// draw can confirm all of them on at most `limit` millionths of all sequences of `n` cards, whatever gamma each of them has.
 pub fn each_limit()
     ensures { EachLimit }
 {}
 
-/// The same of any claims, where one isn't true of the actual rankings.
+/// The same for any claims, if one isn't true of the actual rankings.
 pub fn each_values_limit()
     ensures { EachValuesLimit }
 {}

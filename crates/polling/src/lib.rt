@@ -1,5 +1,5 @@
-//! Ballot polling: the assertions of a file are audited by what is seen of drawn cards alone, where no card can be matched
-//! with its record (Stark, SHANGRLA, section 3).
+//! Ballot polling: the assertions of a file are audited only by what is seen of drawn cards, if no card can be matched with its record
+//! (Stark, SHANGRLA, section 3).
 #![tactic(auto)]
 
 mod counts;

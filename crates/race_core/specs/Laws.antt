@@ -12,6 +12,6 @@ RaceLaw =
     run (start values first workers) events ≡ Some r → IsTrue (all_closed r) →
     r.bound ≡ least values
 
--- as many pieces are closed as there are, exactly where each of them is
+-- as many pieces are closed as there are, exactly if each of them is
 abbrev pub ClosedLaw : Type 0
 ClosedLaw = (r : Race) → IsTrue (all_closed r) ↔ (closed_count r ≡ length r.values)

@@ -44,7 +44,7 @@ abbrev pub with_worker : Race → ℕ → Worker → Race
 with_worker r k w =
     record { values = r.values; next = r.next; bound = r.bound; workers = slice_set r.workers k w }
 
--- the next piece is the worker's; where none is left, the worker is done
+-- the next piece is the worker's; if none is left, the worker is done
 abbrev pub take_next : Race → ℕ → Worker → Option Race
 take_next r k w =
     if w.done then None
@@ -81,14 +81,14 @@ close r k p w =
 
 -- ---- events in a row
 
--- the race after the event, or none where it is not enabled
+-- the race after the event, or none if it is not enabled
 abbrev pub after : Race → Event → Option Race
 after r (Take k) = option_and_then (take_next r k) (slice_get r.workers k)
 after r (Look k) = option_and_then (look r k) (slice_get r.workers k)
 after r (Post k m) = option_and_then (post r k m) (slice_get r.workers k)
 after r (Close k p) = option_and_then (close r k p) (slice_get r.workers k)
 
--- the race after all of the events, or none where one of them is not enabled
+-- the race after all of the events, or none if one of them is not enabled
 abbrev pub run : Race → List Event → Option Race
 run r [] = Some r
 run r (e ∷ es) = option_and_then (λ s. run s es) (after r e)
@@ -113,11 +113,11 @@ worker_of (Look k) = k
 worker_of (Post k m) = k
 worker_of (Close k p) = k
 
--- the worker's looks stand at the last u64
+-- the worker's looks are at the last u64
 abbrev pub is_out_of_looks : Race → ℕ → Bool
 is_out_of_looks r k = option_map_or (λ w. w.looks == 2 ^ 64 - 1) (slice_get r.workers k) false
 
--- the race after the event, or none where it is not enabled or its worker is out of looks
+-- the race after the event, or none if it is not enabled or its worker is out of looks
 abbrev pub step : Race → Event → Option Race
 step r e = if is_out_of_looks r (worker_of e) then None else after r e
 

@@ -7,7 +7,7 @@ use Rattle.irv_base.specs.Tabulation.{least}
 use Rattle.irv_base.specs.Candidates.{is_in}
 use Rattle.race_core.specs.Race.{Worker, Race}
 
--- who took each piece, where it is taken
+-- who took each piece, if it is taken
 abbrev pub takers : List Piece → List ℕ
 takers pieces = map (λ q. q.taker) pieces
 
@@ -17,7 +17,7 @@ is_taker takers k p = slice_index takers p == k
 abbrev pub is_marked : List Piece → ℕ → Bool
 is_marked pieces p = slice_index_or (map (λ q. q.is_closed) pieces) p false
 
--- worker k, with its entry, where the pieces below `next` are taken and those of `closings` are closed
+-- worker k, with its entry, if the pieces below `next` are taken and those of `closings` are closed
 abbrev pub shown_worker : List ℕ → List ℕ → ℕ → ℕ → Entry → Worker
 shown_worker takers closings next k entry = record {
   taken = filter (is_taker takers k) (range_with_len 0 next);
@@ -54,7 +54,7 @@ pub record IsSound (pieces : List Piece) (closings : List ℕ) (entries : List E
   pub counted : closed ≡ count_by (λ q. q.is_closed) pieces
   pub lowest_is : lowest ≡ least (map (λ q. q.value) pieces)
 
--- the entry of the worker k, where it has looks left
+-- the entry of the worker k, if it has looks left
 abbrev pub ready_entry : List Entry → ℕ → Option Entry
 ready_entry entries k =
     option_and_then (λ entry. if entry.looks == 2 ^ 64 - 1 then None else Some entry)

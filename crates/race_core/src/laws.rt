@@ -6,7 +6,7 @@ pub fn racing()
     ensures { RaceLaw }
 {}
 
-/// The number of closed pieces tells whether all are closed.
+/// The number of closed pieces shows whether all are closed.
 pub fn closing()
     ensures { ClosedLaw }
 {}

@@ -25,7 +25,7 @@ pub struct State {
     lowest: u32,
 }
 
-/// A piece: its value, the worker that took it, where it is taken, and whether it is closed.
+/// A piece: its value, the worker that took it, if it is taken, and whether it is closed.
 #[derive(Clone, Copy)]
 struct Piece {
     value: u32,
@@ -33,7 +33,7 @@ struct Piece {
     is_closed: bool,
 }
 
-/// What is kept of a worker beside its pieces.
+/// What is kept of a worker, apart from its pieces.
 #[derive(Clone, Copy)]
 struct Entry {
     seen: u32,
@@ -98,8 +98,7 @@ impl State {
         events.len()
     }
 
-    /// Takes one event. False where it is not enabled, and where the looks of its worker stand at the last u64: the race
-    /// is then as it was.
+    /// Takes one event. False if it is not enabled, or if the looks of its worker are at the last u64: the race is then as it was.
     pub fn step(&mut self, event: Event) -> bool
         ensures taken { OnTrue result (step self.old event ≡ Some self.new) }
         ensures refused { OnFalse result ((step self.old event ≡ None) × (self.new ≡ self.old)) }
@@ -200,7 +199,7 @@ impl State {
         self.bound
     }
 
-    /// The piece that is taken next, or the number of pieces where all are taken.
+    /// The piece that is taken next, or the number of pieces if all are taken.
     pub fn next(&self) -> u32
         ensures { result ≡ self.now.next }
     {

@@ -10,8 +10,8 @@ use audit_session::{AdvanceFault, SeenCards};
 use manifest::Linked;
 use std::alloc::Global;
 
-/// Goes on with a session, and tries it once more where memory was wanting. The answer is that of one call, of the session from
-/// before the first try; want of memory is the answer only where both tries had it.
+/// Goes on with a session, and tries it once more if memory was short. The answer is that of one call, of the session from before the
+/// first try; it is want of memory only if both tries had it.
 pub fn go_on(
     alloc: Global,
     trying: &mut Trying,

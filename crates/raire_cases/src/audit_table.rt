@@ -71,7 +71,7 @@ pub const FILES: [File; 14] = [
     },
 ];
 
-/// The words of a call, its status, and the text that goes to `out` where that is an answer, and else to `err`.
+/// The words of a call, its status, and the text that goes to `out` if it is an answer, and to `err` otherwise.
 pub const CASES: [(&str, u8, &str); 37] = [
     (
         "sample m.csv --seed 2024 --draws 3",

@@ -49,7 +49,7 @@ pub const FILES: [File; 6] = [
     },
 ];
 
-/// The words of a call, its status, and the text that goes to `out` where that is an answer, and else to `err`.
+/// The words of a call, its status, and the text that goes to `out` if it is an answer, and to `err` otherwise.
 pub const CASES: [(&str, u8, &str); 24] = [
     ("search five_ones.raire --cards 5", 0, PRINTED),
     (

@@ -30,7 +30,7 @@ fn texts_of(alloc: Global, words: &[&str]) -> Result<Vec<String>, AllocError> {
     Ok(all)
 }
 
-/// The words of a line, of which a blank stands between each two.
+/// The words of a line, with a blank between each two.
 pub(crate) fn words_of(alloc: Global, line: &str) -> Result<Vec<String>, AllocError> {
     let mut all = Vec::new(alloc);
     for word in line.split(' ') {
@@ -73,7 +73,7 @@ pub(crate) fn held(alloc: Global) -> Result<Vec<Named>, AllocError> {
     Ok(files)
 }
 
-/// Runs the words over some files, where these calls of the desk and these writes of both sinks fail.
+/// Runs the words over some files, with these calls of the desk and these writes of both sinks failing.
 pub(crate) fn ran_over<R: AllocGlobal + Threads + Sync>(
     rt: &R,
     files: Vec<Named>,
@@ -84,7 +84,7 @@ pub(crate) fn ran_over<R: AllocGlobal + Threads + Sync>(
     ran_with(rt, files, words, desk_fails, sink_fails, &NoGate)
 }
 
-/// The same, where the workers of a search stop at this gate.
+/// The same, with the workers of a search stopping at this gate.
 pub(crate) fn ran_with<R: AllocGlobal + Threads + Sync, G: Gate + Sync>(
     rt: &R,
     files: Vec<Named>,
@@ -118,7 +118,7 @@ fn is_answer(status: u8) -> bool {
     matches!(status, 0 | 3..=6 | 10)
 }
 
-/// The run has this status, its text went where the status says, and nothing else was written.
+/// The run has this status, its text went to the sink of that status, and nothing besides was written.
 pub(crate) fn is_as_wanted(ran: &Ran, status: u8, text: &str) -> bool {
     let (said, silent) = if is_answer(status) {
         (&ran.out, &ran.err)
@@ -233,7 +233,7 @@ fn each_failing_call_comes_to_its_status_and_line(rt: HostRuntime) -> Result<(),
     Ok(())
 }
 
-// A file of so many zeros: its first field is no number.
+// A file of this many zeros: its first field is no number.
 fn zeros<R: AllocGlobal + Threads + Sync>(rt: &R, bytes: u64) -> Result<Ran, AllocError> {
     let alloc = rt.alloc();
     let mut files = Vec::new(alloc);

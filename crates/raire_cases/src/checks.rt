@@ -14,7 +14,7 @@ struct Change {
     err: &'static str,
 }
 
-const CHANGES: [Change; 26] = [
+const CHANGES: [Change; 27] = [
     Change {
         shows: "a record twice: the last stands",
         old: "\"records\":12",
@@ -124,10 +124,18 @@ const CHANGES: [Change; 26] = [
     Change {
         shows: "another version",
         old: "\"version\":1",
-        new: "\"version\":3",
+        new: "\"version\":4",
         status: 2,
         out: "",
         err: "raire: f.json: F3 at 0\n",
+    },
+    Change {
+        shows: "version 3 with an order",
+        old: "\"version\":1",
+        new: "\"version\":3",
+        status: 2,
+        out: "",
+        err: "raire: f.json: F2 at 0\n",
     },
     Change {
         shows: "another kind",

@@ -17,7 +17,7 @@ fn file_of(alloc: Global, contest: &Contest) -> Result<Vec<Named>, AllocError> {
     Ok(files)
 }
 
-// A search of so many workers.
+// A search by this many workers.
 fn searched<R: AllocGlobal + Threads + Sync>(
     rt: &R,
     contest: &Contest,

@@ -13,7 +13,7 @@ pub const BOTH: &str = "\
     contest 8\nrecords 1\nwinner 2\nmargin 1\nNEB 2 1 margin 1 counts 5 0 0 0 0 risk 1.000000000000000000 unconfirmed\nsigned off no\n\
     all no\n";
 
-// And where contest 8 has no ballots.
+// And if contest 8 has no ballots.
 const BESIDE_A_TIE: &str = "\
     contest 7\nrecords 1\nwinner 1\nmargin 1\nNEB 1 2 margin 1 counts 0 0 5 0 0 risk 0.048282842081079907 confirmed\nsigned off yes\n\
     contest 8\ntie\nround 1\ntied 1,2\ntally 0\nsigned off no\nall no\n";
@@ -33,7 +33,7 @@ pub const FILES: [File; 24] = [
         name: "eight_elsewhere.raire",
         text: "2\nContest,7,2,1,2\nContest,8,2,1,2\n7,b_1,1\n8,b_2,2\n",
     },
-    // Nor is one of the first, which stands behind it.
+    // Nor is one of the first, which comes after it.
     File {
         name: "both_elsewhere.raire",
         text: "2\nContest,7,2,1,2\nContest,8,2,1,2\n8,b_2,2\n7,b_2,1\n",
@@ -123,7 +123,7 @@ pub const FILES: [File; 24] = [
     },
 ];
 
-/// The words of a call, its status, and the text that goes to `out` where that is an answer, and else to `err`.
+/// The words of a call, its status, and the text that goes to `out` if it is an answer, and to `err` otherwise.
 pub const CASES: [(&str, u8, &str); 41] = [
     (
         "contests two_contests.raire m.csv seen_of_two.csv --seed 2024 --draws 5",

@@ -15,7 +15,7 @@ const CALLS: u32 = 3;
 const NARROW: usize = 7;
 
 // A call that has an answer: its words, its status, and the files that it reads, first read first. These are on a contest.
-const OF_CONTESTS: [(&str, u8, &[&str]); 10] = [
+const OF_CONTESTS: [(&str, u8, &[&str]); 11] = [
     ("search row1.raire", 0, &["row1.raire"]),
     ("search tie.raire", 3, &["tie.raire"]),
     ("search row1.raire --nodes 1", 4, &["row1.raire"]),
@@ -34,6 +34,11 @@ const OF_CONTESTS: [(&str, u8, &[&str]); 10] = [
         &["row1.raire", "no_neb.json"],
     ),
     ("trim row1.raire row1.json", 0, &["row1.raire", "row1.json"]),
+    (
+        "adopt row1.raire row1.json",
+        0,
+        &["row1.raire", "row1.json"],
+    ),
 ];
 
 // And these on an audit.
@@ -121,7 +126,7 @@ const REFUSED: [(&str, u32, u8); 12] = [
 
 // ---- the desk
 
-// The first failing call after which something is wrong, where each call of the desk for a file fails in turn, and then one that isn't made.
+// The first failing call after which something is wrong: each call of the desk for a file fails in turn, and then one that isn't made.
 fn wrong_call<R: AllocGlobal + Threads + Sync>(
     rt: &R,
     line: &str,
@@ -209,7 +214,7 @@ impl Sink for NarrowSink {
     }
 }
 
-// Runs the words into narrow sinks, where a call of the desk fails and a write of both sinks.
+// Runs the words into narrow sinks, with a failing call of the desk and a failing write of both sinks.
 fn ran_narrowly<R: AllocGlobal + Threads + Sync>(
     rt: &R,
     line: &str,
@@ -229,7 +234,7 @@ fn ran_narrowly<R: AllocGlobal + Threads + Sync>(
     })
 }
 
-// The first failing write after which something is wrong, where each write of the text of a run fails in turn.
+// The first failing write after which something is wrong: each write of the text of a run fails in turn.
 fn wrong_write<R: AllocGlobal + Threads + Sync>(
     rt: &R,
     line: &str,
@@ -253,7 +258,7 @@ fn wrong_write<R: AllocGlobal + Threads + Sync>(
     })
 }
 
-// Of each text of a run so many first bytes came, or the whole text where it is shorter.
+// The first bytes of each text of a run came, this many, or the whole text if it is shorter.
 fn has_prefixes(ran: &Ran, own: &Ran, taken: usize) -> bool {
     is_prefix(&ran.out, &own.out, taken) && is_prefix(&ran.err, &own.err, taken)
 }

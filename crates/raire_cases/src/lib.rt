@@ -1,8 +1,10 @@
-//! Worked cases of the top call, over files and sinks in memory, assertion files of one contest that are checked, devices of which
-//! each call fails in turn, a comparison with a plain program, workers that wait for each other, and a session that is tried again where
-//! memory was wanting.
+//! Worked cases of the top call, over files and sinks in memory, assertion files of one contest that are checked, devices of which each
+//! call fails in turn, a comparison with a plain program, workers that wait for each other, and a session that is tried again if memory
+//! was short.
 #![tactic(auto)]
 
+#[cfg(test)]
+mod adoptions;
 pub mod again;
 #[cfg(test)]
 mod audit_table;

@@ -24,8 +24,8 @@ pub enum Plain {
     Certificate(String),
 }
 
-// An assertion with its margin: that the winner can't be eliminated before the loser, or, with a set, that the winner
-// isn't eliminated next where just these stand.
+// An assertion with its margin: that the winner can't be eliminated before the loser, or, with a set, that the winner isn't eliminated
+// next if exactly these are left.
 #[derive(Clone, Copy)]
 struct Claim {
     winner: Candidate,
@@ -64,7 +64,7 @@ impl Contest {
         set
     }
 
-    // The votes of a candidate where just these stand.
+    // The votes of a candidate if exactly these are left.
     fn tally(&self, standing: CandSet, c: Candidate) -> usize {
         self.rankings
             .iter()
@@ -89,8 +89,8 @@ fn stands_before(list: &Ranking, one: Candidate, other: Candidate) -> bool {
     }
 }
 
-/// What a search of the contest prints: the certificate where each way of breaking its ties elects the same candidate, and else
-/// the first tie.
+/// What a search of the contest prints: the certificate if each way of breaking its ties elects the same candidate, and the first tie
+/// otherwise.
 pub fn search(alloc: Global, contest: &Contest) -> Result<Plain, AllocError> {
     match winners(alloc, contest)?.as_slice() {
         [only] => Ok(Plain::Certificate(certificate(alloc, contest, *only)?)),
@@ -98,7 +98,7 @@ pub fn search(alloc: Global, contest: &Contest) -> Result<Plain, AllocError> {
     }
 }
 
-// Those who may stand at the end, a set of one for each, by all ways of breaking ties.
+// Those who may be last, a set of one for each, by all ways of breaking ties.
 fn winners(alloc: Global, contest: &Contest) -> Result<Vec<CandSet>, AllocError> {
     let mut all = Vec::new(alloc);
     all.push(contest.all())?;
@@ -108,7 +108,7 @@ fn winners(alloc: Global, contest: &Contest) -> Result<Vec<CandSet>, AllocError>
     Ok(all)
 }
 
-// What may stand after a round where one of these sets stood, each set once.
+// What may be left after a round before which one of these sets was left, each set once.
 fn after_a_round(
     alloc: Global,
     contest: &Contest,
@@ -128,7 +128,7 @@ fn after_a_round(
     Ok(left)
 }
 
-// The first tie where of the tied the one with the least number leaves. Some round of a contest has one that isn't decided.
+// The first tie if the one with the least number leaves among the tied. Some round of a contest that isn't decided has one.
 fn first_tie(alloc: Global, contest: &Contest) -> Result<Plain, AllocError> {
     let mut standing = contest.all();
     for round in 1..contest.candidates.len() {
@@ -152,7 +152,7 @@ fn least_tally(contest: &Contest, standing: CandSet) -> usize {
     least
 }
 
-// The candidates that stand and have so many votes.
+// The candidates that are left and have this many votes.
 fn of_tally(
     alloc: Global,
     contest: &Contest,
@@ -266,7 +266,7 @@ fn from_here(backwards: &Ranking, c: Candidate) -> Option<CandSet> {
     None
 }
 
-// No order that ends so is possible where the claim holds.
+// No order that ends so is possible if the claim holds.
 fn refutes(claim: &Claim, backwards: &Ranking) -> bool {
     match claim.rest {
         None => stands_before(backwards, claim.loser, claim.winner),
@@ -309,7 +309,7 @@ fn add_suffix(
     Ok(())
 }
 
-// All suffixes that end in a candidate that doesn't stand: the shorter ones first, then by what is read backwards.
+// All suffixes that end in a candidate that isn't left: the shorter ones first, then by what is read backwards.
 fn suffixes(
     alloc: Global,
     contest: &Contest,

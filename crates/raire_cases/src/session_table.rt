@@ -140,7 +140,7 @@ pub const FILES: [File; 22] = [
     },
 ];
 
-/// The words of a call, its status, and the text that goes to `out` where that is an answer, and else to `err`.
+/// The words of a call, its status, and the text that goes to `out` if it is an answer, and to `err` otherwise.
 pub const CASES: [(&str, u8, &str); 43] = [
     (
         "open one_card.raire m.csv one_card.json --seed 2024",

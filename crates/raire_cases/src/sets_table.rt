@@ -33,12 +33,12 @@ const SPENT_AT_2: &str = "spent\nsets 2\norder 3,2,1\nmargin 2\n";
 
 const SPENT_AT_1: &str = "spent\nsets 1\n";
 
-// Of the 4,096 sets of the twelve 4,059 stand below the best margin.
+// Of the 4,096 sets of the twelve 4,059 are reached below the best margin.
 const NEARLY_EQUAL: &str = "full count\norder 7,2,10,8,9,12,11,5,4,6,1,3\nmargin 1\nfloor 2\n";
 
 /// The lines, the statuses and the texts.
 pub const CASES: [(&str, u8, &str); 37] = [
-    // Of row1.raire nobody's set but {1} stands below the best margin, and {1}, {3} and {1,3} come before the order.
+    // In row1.raire no set but {1} is reached below the best margin, and {1}, {3} and {1,3} come before the order.
     ("search row1.raire --sets 3", 0, PRINTED),
     ("search row1.raire --sets=1048576", 0, PRINTED),
     ("search row1.raire --sets 3 --workers 1", 0, PRINTED),

@@ -210,7 +210,7 @@ const ROW_1_ROUNDS: &str =
 const COUNTY_ROUNDS: &str =
     "contest 339\nrecords 10\nround 1: 15=1 16=4 17=3 18=2 exhausted=0\neliminated 15\nround 2: 16=5 17=3 18=2 exhausted=0\neliminated 18\nround 3: 16=5 17=4 exhausted=1\neliminated 17\nwinner 16\n";
 
-/// The words of a call, its status, and the text that goes to `out` where that is an answer, and else to `err`.
+/// The words of a call, its status, and the text that goes to `out` if it is an answer, and to `err` otherwise.
 pub const CASES: [(&str, u8, &str); 71] = [
     ("search five.raire", 0, FIVE_PRINTED),
     ("search later.raire", 0, LATER_PRINTED),

@@ -53,7 +53,7 @@ const OF_TWO_WITHOUT: &str = "tie\nround 1\ntied 1,2\ntally 0\n";
 
 const FIRST_OF_TWO: &str = "tie\nround 1\ntied 3,4\ntally 0\n";
 
-/// The words of a call, its status, and the text that goes to `out` where that is an answer, and else to `err`.
+/// The words of a call, its status, and the text that goes to `out` if it is an answer, and to `err` otherwise.
 pub const CASES: [(&str, u8, &str); 24] = [
     ("search none_for_two.raire", 0, NONE_FOR_TWO_PRINTED),
     ("tabulate none_for_two.raire", 0, NONE_FOR_TWO_ROUNDS),

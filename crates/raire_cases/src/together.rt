@@ -12,7 +12,7 @@ const PATIENCE: u32 = 4_000_000_000;
 // Turns after which nobody is waited for.
 const HASTE: u32 = 1_000;
 
-/// Holds each of two workers up until the other came, for so many turns; in an audit of all contests, each of two contests.
+/// Holds each of two workers up until the other came, for this many turns; in an audit of all contests, each of two contests.
 #[derive(Drop)]
 struct Both {
     turns: u32,

@@ -24,7 +24,7 @@ impl Trying {
         Trying { session, tries: 0 }
     }
 
-    /// Tries once to go on with the session, up to so many draws in all: a call of `advance`.
+    /// Tries once to go on with the session, up to this number of draws in all: a call of `advance`.
     pub fn try_once(
         &mut self,
         alloc: Global,

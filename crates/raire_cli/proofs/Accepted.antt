@@ -23,7 +23,7 @@ use Rattle.raire_cli.specs.Held.{AreChecked}
 use Rattle.raire_cli.specs.Answers.{asked, asked_by}
 use Rattle.raire_cli.proofs.Said.{said, says_of}
 
--- `yes` is told of a file that is accepted
+-- `yes` is printed for a file that is accepted
 pub accepted_answer : (file : Content) (answer : Answer) (text : List ℕ) → verdict_on file answer ≡ Some (Answered Done text) → answer ≡ Ok Accepted
 accepted_answer file (Ok OtherContest) text told = absurd (cc told)
 accepted_answer file (Ok (OtherWinner winner)) text told = absurd (cc told)
@@ -42,7 +42,7 @@ yes_is : (file : Content) (text : List ℕ) → verdict_on file (Ok Accepted) �
 yes_is file text told = cc
 
 module _ (words : List (List ℕ)) (files : List File) (asks : Asks Check words) (text : List ℕ) where
-  -- the file of the words holds, and this is what is told of it
+  -- the file of the words holds, and this is what is printed about it
   abbrev Held : Type 0
   Held = (file : Content) × HoldsAsked words files file × (text ≡ yes_text file)
 

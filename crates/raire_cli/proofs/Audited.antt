@@ -112,7 +112,7 @@ module _ (words : List (List ℕ)) (files : List File) (asks : Asks Audit words)
   abbrev task : AuditTask
   task = asks.task
 
-  -- the session of the words goes on, and this tells it
+  -- the session of the words goes on, and this prints it
   abbrev Gone : Type 0
   Gone = (next : Content) × GoesOn words files next × (text ≡ session_text next) × (kind ≡ kind_of next.session)
 

@@ -1,6 +1,7 @@
 -- The clauses of `run`, each from how the call went.
 use Rattle.std.proofs.Common.{◌≡◌, ◌⊎◌, inl, inr, ⊎_elim, ℕ, ◌≤◌, ◌-◌, ◌^◌, List, Option, None, Some, IfSome, false, refl, sym, ap, subst, ◌∙◌, arith}
 use Rattle.std.specs.Prelude.{◌≢◌, is_some}
+use Rattle.std.proofs.lemmas.Bool.{cases_eq}
 use Rattle.desk.specs.Desk.{File}
 use Rattle.desk.specs.declared.served.Served.{Served}
 use Rattle.cli_base.specs.Begun.{HasCome}
@@ -11,10 +12,10 @@ use Rattle.contest_search.specs.Contest.{candidate_count}
 use Rattle.assertion_file.specs.Content.{Content}
 use Rattle.assertion_file.specs.Text.{assertion_file_text}
 use Rattle.cli_base.specs.Confirmed.{confirmed_kind}
-use Rattle.cli_base.specs.Outcome.{Outcome, Answered}
-use Rattle.cli_base.specs.Script.{Asked, AsHeld, ByDesk, IsDue, ComesTo, AgreeOn, Same, SameButContests}
+use Rattle.cli_base.specs.Outcome.{Outcome, Answered, status_of}
+use Rattle.cli_base.specs.Script.{Asked, AsHeld, ByDesk, IsDue, ComesTo, AgreeOn, SameButContests, SameStatus}
 use Rattle.cli_base.specs.Ends.{Writing, Took, IsWritten}
-use Rattle.cli_base.specs.Statuses.{IsUndone, IsQuiet, Exactly, ExactlyInBudget, IsNothing, HasAnswer, Statuses, ContestsStatuses}
+use Rattle.cli_base.specs.Statuses.{IsAnswered, IsUndone, IsQuiet, Exactly, ExactlyInBudget, IsNothing, HasAnswer, Statuses, ContestsStatuses}
 use Rattle.cli_base.specs.Story.{Story}
 use Rattle.cli_base.specs.declared.outcome.AnswerKind.{AnswerKind}
 use Rattle.cli_base.specs.declared.outcome.AnswerKind.TheVariants.{Done, Tie, Spent, FullCount, Unconfirmed}
@@ -25,7 +26,7 @@ use Rattle.cli_base.proofs.Clauses.{bad_words_clause, contests_clause, statuses_
 use Rattle.cli_base.proofs.ConfirmedKinds.{done_is_confirmed, unconfirmed_is_not}
 use Rattle.command_line.specs.Line.{command_of, is_line}
 use Rattle.command_line.specs.declared.commands.Command.{Command}
-use Rattle.command_line.specs.declared.commands.Command.TheVariants.{Contests, Audit, AuditPlurality, Check, Open, OpenPlurality, Poll, Search, Trial, Trim}
+use Rattle.command_line.specs.declared.commands.Command.TheVariants.{Adopt, Contests, Audit, AuditPlurality, Check, Open, OpenPlurality, Poll, PollEach, Search, SearchFewest, Trial, Trim}
 use Rattle.command_line.proofs.Checked.{have_meanings}
 use Rattle.check_command.specs.Check.{yes_text}
 use Rattle.session_state.specs.Content.{Content as SessionContent}
@@ -33,23 +34,28 @@ use Rattle.session_state.specs.Sessions.{is_signed_off}
 use Rattle.session_file.specs.Text.{session_text}
 use Rattle.raire_cli.specs.Asks.{Asks}
 use Rattle.raire_cli.specs.Answers.{asked, asked_by, files_known, is_of_contests, is_open, known_by, of_contests}
-use Rattle.raire_cli.specs.Confirmation.{ConfirmsAsked, GivesReason, IsConfirmed, IsReasoned}
+use Rattle.raire_cli.specs.Confirmation.{ConfirmsAsked, GivesReason, IsConfirmed}
+use Rattle.raire_cli.specs.Fewest.{ConfirmsFewest, GivesFewestReason, IsFewest, IsFewestComplete, IsReasoned}
 use Rattle.raire_cli.specs.Acceptance.{HoldsAsked, IsUpheld}
 use Rattle.raire_cli.specs.Budgets.{budget_of}
 use Rattle.raire_cli.specs.Sets.{IsNeverSpentBySets, IsSpentBySets, MoreCount}
 use Rattle.raire_cli.specs.Trims.{IsTrimmed, IsTrimmedOf}
+use Rattle.raire_cli.specs.Adoptions.{AreAdopted, IsAdoptedOf, IsAdoptionComplete}
 use Rattle.raire_cli.specs.Promises.{IsComplete, IsTabulationComplete, IsTrialComplete, IsExactUnlessOpen, HasCause}
 use Rattle.raire_cli.specs.Undecided.{IsAbout, IsTied, IsTieComplete, TellsTie}
 use Rattle.raire_cli.specs.Audits.{GoesOn, IsAudited}
 use Rattle.raire_cli.specs.Pluralities.{IsPluralityAudited, IsPluralityOpened, OpensPlurality, PluralGoesOn}
 use Rattle.raire_cli.specs.PluralityTies.{TellsPluralityTie}
 use Rattle.raire_cli.specs.Polls.{IsPollOf, IsPolled, is_confirmed_by, told_of}
+use Rattle.raire_cli.specs.PollsComplete.{IsPollComplete}
+use Rattle.raire_cli.specs.PollsEach.{IsEachPollOf, IsPolledEach, is_confirmed_by as is_confirmed_by_each, told_of as told_of_each}
 use Rattle.raire_cli.specs.Enough.{AreEnough, Judging, IsNeverSpent, judging_of}
 use Rattle.raire_cli.specs.Openings.{Opens, IsOpened}
 use Rattle.raire_cli.specs.Contests.{AuditsContests, IsAuditedByContest, blocks_of}
 use Rattle.raire_cli.proofs.Accepted.{held_of}
 use Rattle.raire_cli.proofs.ContestsRefused.{refused_anyway}
 use Rattle.raire_cli.proofs.ContestsAudited.{audited_by}
+use Rattle.raire_cli.proofs.Adoptions.{adopted_of, has_adoption}
 use Rattle.raire_cli.proofs.Trims.{printed_of}
 use Rattle.raire_cli.proofs.Audited.{IsKind, goes_on}
 use Rattle.raire_cli.proofs.Enough.{never_spent}
@@ -58,9 +64,12 @@ use Rattle.raire_cli.proofs.Opened.{is_opened}
 use Rattle.raire_cli.proofs.PluralAudited.{plural_goes_on}
 use Rattle.raire_cli.proofs.PluralOpened.{plural_is_opened}
 use Rattle.raire_cli.proofs.PluralLimited.{plural_limited}
-use Rattle.raire_cli.proofs.Polled.{polled_by}
-use Rattle.raire_cli.proofs.EachCommand.{agrees_by, agrees_exactly, contests_agree, counts_in_full}
+use Rattle.raire_cli.proofs.Polled.{polled_by, were_within}
+use Rattle.raire_cli.proofs.PolledEach.{are_first, polled_each_by}
+use Rattle.raire_cli.proofs.PollsComplete.{HasEnd, confirmed_status, has_each_poll, has_poll}
+use Rattle.raire_cli.proofs.EachCommand.{agrees_by, agrees_in_status, contests_agree, counts_in_full}
 use Rattle.raire_cli.proofs.Complete.{not_spent, has_answer, tried}
+use Rattle.raire_cli.proofs.Fewest.{confirms_fewest, fewest_ends, gives_fewest_reason}
 use Rattle.raire_cli.proofs.Headline.{confirms_asked, gives_reason}
 use Rattle.raire_cli.proofs.Rounds.{has_rounds, never_stopped}
 use Rattle.raire_cli.proofs.SetsSpent.{closed_by, more_spent, never_by_sets, spent_more}
@@ -89,7 +98,7 @@ if_some : {A : Type 0} (o : Option A) (P Q : A → Type 0) → ((x : A) → P x 
 if_some None P Q f p = tt
 if_some (Some x) P Q f p = f x p
 
--- words are no line exactly where they ask for nothing
+-- words are no line exactly if they ask for nothing
 nothing_some : (command : Option Command) → is_some command ≡ false → IsNothing (asked_by command)
 nothing_some None none = tt
 nothing_some (Some command) none = absurd (cc none)
@@ -101,10 +110,10 @@ some_nothing (Some command) nothing = absurd nothing
 exactly_same : (n status : ℕ) (P Q : Type 0) → (P → Q) → (Q → P) → Exactly n status P → Exactly n status Q
 exactly_same n status P Q to from (only, wherever) = (λ e. to (only e), λ q. wherever (from q))
 
-asked_exact : (words : List (List ℕ)) (command : Command) → command_of words ≡ Some command → is_open command ≡ false → AgreeOn Same (asked words)
-asked_exact words command is closed = subst (λ c. AgreeOn Same (asked_by c)) (sym is) (agrees_exactly command closed)
+asked_exact : (words : List (List ℕ)) (command : Command) → command_of words ≡ Some command → is_open command ≡ false → AgreeOn SameStatus (asked words)
+asked_exact words command is closed = subst (λ c. AgreeOn SameStatus (asked_by c)) (sym is) (agrees_in_status command closed)
 
--- of another command than an audit of all contests
+-- for every command except an audit of all contests
 without_contests : (words : List (List ℕ)) (command : Option Command) → command_of words ≡ command → (Asks Contests words → ⊥) →
     of_contests command ≡ false
 without_contests words None is none = refl
@@ -126,12 +135,24 @@ module _ (words : List (List ℕ)) {held : Option (List File)} {failed : Type 0}
       (file, confirms, subst (Took out) shown took))
       (answered_with story Done)
 
+  pub fewest_clause : IsFewest held words status out
+  fewest_clause = if_some held (λ files. status ≡ 0 → (text : List ℕ) × ComesTo (AsHeld files) (asked words) (Answered Done text) × Took out text)
+      (λ files. Asks SearchFewest words → status ≡ 0 → (file : Content) × ConfirmsFewest words files file × Took out (assertion_file_text file))
+      (λ files answer asks zero.
+      let (text, comes, took) = answer zero in
+      let (file, confirms, shown) = confirms_fewest words files asks text comes in
+      (file, confirms, subst (Took out) shown took))
+      (answered_with story Done)
+
   pub full_count_clause : IsReasoned held words status out
   full_count_clause = if_some held (λ files. status ≡ 5 → (text : List ℕ) × ComesTo (AsHeld files) (asked words) (Answered FullCount text) × Took out text)
-      (λ files. status ≡ 5 → (text : List ℕ) × GivesReason words files text × Took out text)
+      (λ files. status ≡ 5 → (text : List ℕ) × (GivesReason words files text ⊎ GivesFewestReason words files text) × Took out text)
       (λ files answer five.
       let (text, comes, took) = answer five in
-      (text, gives_reason words files (counts_in_full words (AsHeld files) text (command_of words) refl comes) text comes, took))
+      let reason : GivesReason words files text ⊎ GivesFewestReason words files text =
+      ⊎_elim (λ asks. inl (gives_reason words files asks text comes)) (λ asks. inr (gives_fewest_reason words files asks text comes))
+      (counts_in_full words (AsHeld files) text (command_of words) refl comes) in
+      (text, reason, took))
       (answered_with story FullCount)
 
   pub tied_clause : IsTied held words status out
@@ -158,6 +179,15 @@ module _ (words : List (List ℕ)) {held : Option (List File)} {failed : Type 0}
       let (text, comes, took) = answer zero in
       let (left, is, shown) = printed_of words files asks text comes in
       (left, is, subst (Took out) shown took))
+      (answered_with story Done)
+
+  pub adopted_clause : AreAdopted held words status out
+  adopted_clause = if_some held (λ files. status ≡ 0 → (text : List ℕ) × ComesTo (AsHeld files) (asked words) (Answered Done text) × Took out text)
+      (λ files. Asks Adopt words → status ≡ 0 → (file : Content) × IsAdoptedOf words files file × Took out (assertion_file_text file))
+      (λ files answer asks zero.
+      let (text, comes, took) = answer zero in
+      let (file, is, shown) = adopted_of words files asks text comes in
+      (file, is, subst (Took out) shown took))
       (answered_with story Done)
 
   pub opened_clause : IsOpened held words status out
@@ -221,10 +251,43 @@ module _ (words : List (List ℕ)) {held : Option (List File)} {failed : Type 0}
     by (Some files) done unconfirmed = λ asks status-is. elim status-is [
       | inl zero ↦
           let (of, took, kind-is) = polled-of files Done (inl refl) asks (done zero) in
-          (of, took, (λ e. done_is_confirmed (is_confirmed_by of) kind-is, λ yes. zero))
+          let yes = done_is_confirmed (is_confirmed_by of) kind-is in
+          (of, took, (λ e. yes, λ yes. zero), λ e. were_within of yes)
       | inr ten ↦
-          let (of, took, kind-is) = polled-of files Unconfirmed (inr refl) asks (unconfirmed ten) in
-          (of, took, (λ zero. absurd (omega (arith, zero, ten)), λ yes. absurd (unconfirmed_is_not (is_confirmed_by of) kind-is yes)))
+          let (of, took, kind-is) = polled-of files Unconfirmed (inr refl) asks (unconfirmed ten) in (
+            of,
+            took,
+            (λ zero. absurd (omega (arith, zero, ten)), λ yes. absurd (unconfirmed_is_not (is_confirmed_by of) kind-is yes)),
+            λ zero. absurd (omega (arith, zero, ten)),
+          )
+    ]
+
+  -- the same of a poll with a look after each draw
+  polled_each-of : (files : List File) (kind : AnswerKind) → IsKind kind → Asks PollEach words →
+      (text : List ℕ) × ComesTo (AsHeld files) (asked words) (Answered kind text) × Took out text →
+      (of : IsEachPollOf words files) × Took out (told_of_each of) × (kind ≡ confirmed_kind (is_confirmed_by_each of))
+  polled_each-of files kind of asks (text, comes, took) =
+      let (made, text-is, kind-is) = polled_each_by words files asks kind text of comes in
+      (made, subst (Took out) text-is took, kind-is)
+
+  pub polled_each_clause : IsPolledEach held words status out
+  polled_each_clause = by held (answered_with story Done) (answered_with story Unconfirmed) where
+    by : (h : Option (List File)) → IfSome h (λ files. status ≡ 0 → (text : List ℕ) × ComesTo (AsHeld files) (asked words) (Answered Done text)
+        × Took out text) →
+        IfSome h (λ files. status ≡ 10 → (text : List ℕ) × ComesTo (AsHeld files) (asked words) (Answered Unconfirmed text) × Took out text) →
+        IsPolledEach h words status out
+    by None done unconfirmed = tt
+    by (Some files) done unconfirmed = λ asks status-is. elim status-is [
+      | inl zero ↦
+          let (of, took, kind-is) = polled_each-of files Done (inl refl) asks (done zero) in
+          (of, took, (λ e. done_is_confirmed (is_confirmed_by_each of) kind-is, λ yes. zero), are_first of)
+      | inr ten ↦
+          let (of, took, kind-is) = polled_each-of files Unconfirmed (inr refl) asks (unconfirmed ten) in (
+            of,
+            took,
+            (λ zero. absurd (omega (arith, zero, ten)), λ yes. absurd (unconfirmed_is_not (is_confirmed_by_each of) kind-is yes)),
+            are_first of,
+          )
     ]
 
   -- ---- a plurality contest
@@ -380,6 +443,18 @@ module _ (words : List (List ℕ)) {held : Option (List File)} {failed : Type 0}
                 ⊎_elim (λ five. inr (inl five)) (λ nine. inr (inr nine)) (settled files (not_spent words files ok) quiet (spent one) ((full one).1 count))
           ]
 
+  -- the same of a search for the fewest NENs, by what it came to
+  pub complete_fewest_clause : IsFewestComplete held words failed status out err
+  complete_fewest_clause = by held (answered_clause story) where
+    by : (h : Option (List File)) → IsAnswered (asked words) h failed status out err → IsFewestComplete h words failed status out err
+    by None answer = tt
+    by (Some files) answer = λ ok quiet. elim (cases_eq status 9) [
+      | inl nine ↦ inr (inr nine)
+      | inr other ↦
+          let (to_out, to_err, may, took_out, took_err) = answer.quiet quiet other in
+          ⊎_elim (λ zero. inl zero) (λ five. inr (inl five)) (fewest_ends words files ok (record { status = status; out = to_out; err = to_err }) may)
+    ]
+
   pub complete_tie_clause : IsTieComplete held words failed status out err
   complete_tie_clause = by held (λ one. (causes one).tie) (λ one. (causes one).spent) where
     by : (h : Option (List File)) → (IsOfOne → IfSome h (λ files. ExactlyInBudget 3 status (HasAnswer (asked words) files Tie))) →
@@ -388,6 +463,31 @@ module _ (words : List (List ℕ)) {held : Option (List File)} {failed : Type 0}
     by (Some files) tie spent = λ ok quiet.
         let one : IsOfOne = ap of_contests ok.asks.asked ∙ about_one files ok.asks.command ok.ballots ok.asks.about in
         settled files (never_spent_there words files ok) quiet (spent one) ((tie one).1 (has_tie words files ok))
+
+  -- a poll that has an end comes to it
+  ended : (files : List File) (end : HasEnd words files) → IsQuiet failed out err →
+      ((kind : AnswerKind) → Exactly (status_of kind) status (HasAnswer (asked words) files kind)) → (status ≡ 0) ⊎ (status ≡ 10) ⊎ (status ≡ 9)
+  ended files end quiet exact = elim ((exact (confirmed_kind end.confirmed)).1 end.answer) [
+    | inl is ↦ ⊎_elim (λ zero. inl zero) (λ ten. inr (inl ten)) (confirmed_status end.confirmed status is)
+    | inr undone ↦ inr (inr (undone_is_nine story quiet undone))
+  ]
+
+  pub complete_poll_clause : IsPollComplete held words failed status out err
+  complete_poll_clause = by held exact_promise where
+    by : (h : Option (List File)) → IsExactUnlessOpen h words status → IsPollComplete h words failed status out err
+    by None exact = tt
+    by (Some files) exact = λ pollable quiet. ⊎_elim
+        (λ ok. ended files (has_poll words files ok) quiet (exact (Poll ok.asks.task) ok.asks.asked refl))
+        (λ ok. ended files (has_each_poll words files ok) quiet (exact (PollEach ok.asks.task) ok.asks.asked refl)) pollable
+
+  pub complete_adoption_clause : IsAdoptionComplete held words failed status out err
+  complete_adoption_clause = by held exact_promise where
+    by : (h : Option (List File)) → IsExactUnlessOpen h words status → IsAdoptionComplete h words failed status out err
+    by None exact = tt
+    by (Some files) exact = λ ok quiet. elim ((exact (Adopt ok.asks.task) ok.asks.asked refl Done).1 (has_adoption words files ok)) [
+      | inl zero ↦ inl zero
+      | inr undone ↦ inr (undone_is_nine story quiet undone)
+    ]
 
   pub complete_tabulation_clause : IsTabulationComplete held words failed status out err
   complete_tabulation_clause = by held (λ one. (causes one).done) (λ one. (causes one).spent) where

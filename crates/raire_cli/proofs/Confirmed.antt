@@ -1,5 +1,6 @@
 -- The certificate of a contest confirms its winner.
 use Rattle.std.proofs.Common.{◌≡◌, ℕ, ◌<◌, ◌≤◌, List, [], ◌∷◌, All, Contains, Some, sym, ap, subst, refl, arith, ◌∙◌}
+use Rattle.std.specs.Prelude.{IsSomeAnd}
 use Rattle.std.specs.List.{list_any}
 use Rattle.std.proofs.lemmas.List.Elements.{All-contains, All-cons, All-nil}
 use Rattle.irv_base.proofs.Members.{Member, here, there, from_list_all, from_list_any, member-map, from_map, contains-from_member, member-from_contains}
@@ -21,7 +22,7 @@ use Rattle.cli_base.proofs.Scripts.{some_is}
 use Rattle.contest_search.specs.Certificate.{margin_of, certificate_of, IsCertificateOfDecided}
 use Rattle.contest_search.specs.Contest.{candidate_count}
 use Rattle.contest_search.proofs.Contests.{winner-below}
-use Rattle.raire_cli.specs.Confirmation.{ClaimHolds, Confirms, IsLeast}
+use Rattle.raire_cli.specs.Confirmation.{ClaimHolds, Confirms, IsHardest, IsLeast}
 
 each : {X : Type 0} (P : X → Type 0) (xs : List X) → ((x : X) → Member x xs → P x) → All P xs
 each P [] h = All-nil P
@@ -46,10 +47,24 @@ module _ (n : ℕ) (records : List (List ℕ)) (winner : ℕ) where
       let (a, k, e) = listed claim m in
       subst (λ (c : Claim). best_margin n winner (low n records) ≤ c.margin) e (certificate-le n winner records a k)
 
+-- the order of the certificate is the hardest
+pub hardest_order : (n : ℕ) (records : List (List ℕ)) (winner : ℕ) (order : List ℕ) (margin : ℕ) → winner < n → 1 < n →
+    margin ≡ best_margin n winner (low n records) → certificate_order n winner (low n records) (best_margin n winner (low n records)) ≡ Some order →
+    IsHardest n records winner order margin
+hardest_order n records winner order margin below two is printed =
+    let (found, least, among, hard) = order_is n winner (low n records) below two in
+    let same : order ≡ found = some_is (sym printed ∙ least) in
+    record {
+      alternative = subst (IsAlternative n winner) (sym same) ((alternative_orders_are n winner found).0 among);
+      hardest = λ a proper holds r.
+          let le : true_margin records a ≤ low n records order = low-refuter n records order a proper r in
+          omega (arith, le, ap (low n records) same, hard, is);
+    }
+
 -- what a file has of the certificate
 record Certified (n : ℕ) (records : List (List ℕ)) (winner : ℕ) (file : Content) : Type 0 where
   pub margin : file.margin ≡ best_margin n winner (low n records)
-  pub order : certificate_order n winner (low n records) (best_margin n winner (low n records)) ≡ Some file.order
+  pub order : certificate_order n winner (low n records) (best_margin n winner (low n records)) ≡ file.order
   pub claims : file.claims ≡ certificate_claims n records winner
 
 confirmed : (n : ℕ) (records : List (List ℕ)) (winner : ℕ) (file : Content) → winner < n → 1 < n → 1 ≤ best_margin n winner (low n records) →
@@ -57,7 +72,6 @@ confirmed : (n : ℕ) (records : List (List ℕ)) (winner : ℕ) (file : Content
 confirmed n records winner file below two positive c =
     let best = best_margin n winner (low n records) in
     let (found, least, among, hard) = order_is n winner (low n records) below two in
-    let same : file.order ≡ found = some_is (sym c.order ∙ least) in
     let (a, k, e) = certificate_has_best n winner records below two positive in
     record {
       hold = subst (All (ClaimHolds n records)) (sym c.claims)
@@ -80,12 +94,8 @@ confirmed n records winner file below two positive c =
       smallest = subst (All (λ claim. file.margin ≤ claim.margin)) (sym c.claims)
           (each (λ (claim : Claim). file.margin ≤ claim.margin) (certificate_claims n records winner)
           (λ claim m. let le = claim-least n records winner claim m in omega (arith, le, c.margin)));
-      order = record {
-        alternative = subst (IsAlternative n winner) (sym same) ((alternative_orders_are n winner found).0 among);
-        hardest = λ a proper holds r.
-            let le : true_margin records a ≤ low n records file.order = low-refuter n records file.order a proper r in
-            omega (arith, le, ap (low n records) same, hard, c.margin);
-      };
+      order = subst (λ o. IsSomeAnd o (λ order. IsHardest n records winner order file.margin)) (sym (sym c.order ∙ least))
+          (hardest_order n records winner found file.margin below two c.margin least);
     }
 
 pub certificate-positive : (ballots : BallotFile) (file : Content) → 1 < candidate_count ballots → (c : IsCertificateOfDecided ballots file) →

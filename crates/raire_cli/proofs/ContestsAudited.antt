@@ -22,7 +22,7 @@ use Rattle.raire_cli.specs.Answers.{asked, asked_by}
 use Rattle.raire_cli.specs.Contests.{AuditsContests, blocks_of}
 use Rattle.raire_cli.proofs.Said.{said}
 
--- an answer tells how each contest ends
+-- an answer says how each contest ends
 told_of : (task : ContestsTask) (list : List BallotFile) (batches : Batches) (seen : List (List Entry)) (kind : AnswerKind) (text : List ℕ) →
     Audits task list batches seen (Answered kind text) →
     (is : IsTold task list batches seen (Answered kind text)) × (kind ≡ confirmed_kind (all_signed is.ends)) × (text ≡ contests_table task.limit list is.ends)

@@ -51,7 +51,7 @@ module _ (files : List File) where
     read_alone file next each (bytes, there, rest) may = each bytes rest (reads file bytes next there due may)
 
     module _ (task : ContestsTask) where
-      -- a ballot without a card comes first, and else only a drawn card is without its record
+      -- a ballot without a card comes first; otherwise only a drawn card is without its record
       audit_alone : (list : List BallotFile) (batches : Batches) (seen : List (List Entry)) (v : Verdict) → Audits task list batches seen refused →
           Audits task list batches seen v → v ≡ refused
       audit_alone list batches seen v (inl unplaced) (inl other) =

@@ -69,7 +69,7 @@ module _ (readings : Readings) (ballots : BallotFile) (next : Outcome → Script
   abbrev Counts : AnswerKind → Result Outcome Tie → Type 0
   Counts kind counted = Concludes readings (go_on (told (tied ballots) counted) next) (Answered kind text)
 
-  -- where it answers with a session, it goes on with the outcome
+  -- if it answers with a session, it goes on with the outcome
   pub won_on : (kind : AnswerKind) → IsKind kind → Concludes readings (if_won ballots next) (Answered kind text) →
       (outcome : Outcome) × (outcome_in ballots ≡ Ok outcome) × Concludes readings (next outcome) (Answered kind text)
   won_on kind of comes = by (outcome_in ballots) refl of comes where
@@ -79,7 +79,7 @@ module _ (readings : Readings) (ballots : BallotFile) (next : Outcome → Script
     by (Err tie) is (inl done) comes = absurd (cc (comes, done))
     by (Err tie) is (inr unconfirmed) comes = absurd (cc (comes, unconfirmed))
 
-  -- a tie that it tells is that of the ballots, if what follows tells none
+  -- a tie that it prints is that of the ballots, if what follows prints none
   pub tied_on : ((outcome : Outcome) → Concludes readings (next outcome) (Answered TieKind text) → ⊥) →
       Concludes readings (if_won ballots next) (Answered TieKind text) →
       (tie : Tie) × (outcome_in ballots ≡ Err tie) × (text ≡ tie_text ballots.candidates 1 tie.tied tie.tally)

@@ -147,7 +147,7 @@ module _ (task : TrialTask) (sets : ℕ) (is : task.budget ≡ Sets sets) where
   tried_spent v (inr (inl (text, a, i))) four = let e : 3 ≡ 4 = sym (ap (λ v. (outcome v).status) i) ∙ four in absurd (cc e)
   tried_spent v (inr (inr (text, a, i))) four = (text, subst (λ budget. HasSpent budget contest text) is a, i)
 
-  -- more sets are needed than there are, and the start order doesn't tell: then it is spent
+  -- more sets are needed than there are, and the start order doesn't decide: then it is spent
   pub spent_where_more : (winner : ℕ) (won : IsWon contest winner) → 1 ≤ first_bound (candidate_count contest) contest.rankings won.order →
       sets < sets_of contest winner → (v : Verdict) → Tries task v → One (HasSpent (Sets sets) contest) Spent v
   spent_where_more winner won some above v (inl (text, a, i)) =

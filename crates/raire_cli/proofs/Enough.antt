@@ -1,4 +1,4 @@
--- A command that judges an assertion file isn't spent where its budget is enough.
+-- A command that judges an assertion file isn't spent if its budget is enough.
 use Rattle.std.proofs.Common.{◌≡◌, ℕ, ◌≤◌, ◌-◌, ◌*◌, List, length, Bool, true, false, Option, None, Some, Result, Ok, Err, MatchBool, map, refl, sym, ap, subst, arith}
 use Rattle.std.specs.Prelude.{option_map, unwrap_or}
 use Rattle.std.specs.Option.{option_or}
@@ -43,10 +43,11 @@ use Rattle.command.specs.declared.audit.AuditTask.{AuditTask}
 use Rattle.command.specs.declared.check.CheckTask.{CheckTask}
 use Rattle.command.specs.declared.open.OpenTask.{OpenTask}
 use Rattle.command.specs.declared.poll.PollTask.{PollTask}
+use Rattle.command.specs.declared.poll_each.PollEachTask.{PollEachTask}
 use Rattle.command.specs.declared.trim.TrimTask.{TrimTask}
 use Rattle.command_line.specs.Line.{command_of}
 use Rattle.command_line.specs.declared.commands.Command.{Command}
-use Rattle.command_line.specs.declared.commands.Command.TheVariants.{Check, Trim, Open, Audit, Poll}
+use Rattle.command_line.specs.declared.commands.Command.TheVariants.{Check, Trim, Open, Audit, Poll, PollEach}
 use Rattle.check_command.specs.Check.{Checks, verdict_on}
 use Rattle.check_command.specs.Check as check
 use Rattle.trimmer.specs.Trimmed.{trimmed}
@@ -58,6 +59,7 @@ use Rattle.trim_command.specs.Trim as trim
 use Rattle.input_files.specs.Cards.{cards_for}
 use Rattle.input_files.specs.Judged.{told, go_on}
 use Rattle.input_files.specs.Refusals.{no_record_text, refused_assertions, refused_ballots, refused_manifest, refused_seen}
+use Rattle.poll_command.specs.Each as poll_each
 use Rattle.poll_command.specs.Poll as poll
 use Rattle.input_files.proofs.Going.{IsRefusal, OnlyRefuses, cards-only, told-only}
 use Rattle.session_commands.specs.Accepted.{if_accepted, is_accepted, on_if}
@@ -118,7 +120,7 @@ trims-never budget ballots file text sound enough (Err (SpentAt last), found, is
 trims-never budget ballots file text sound enough (Err (SpentSets sets), found, is) = checks-never budget ballots file text sound enough (Err (SpentSets sets), found, is)
 trims-never budget ballots file text sound enough (Err Memory, found, is) = checks-never budget ballots file text sound enough (Err Memory, found, is)
 
--- an answer that tells whether all is confirmed is never spent
+-- an answer that says whether all is confirmed is never spent
 told-never : (yes : Bool) → Spent ≡ confirmed_kind yes → ⊥
 told-never true is = cc is
 told-never false is = cc is
@@ -262,6 +264,28 @@ module _ (files : List File) (judging : Judging) (enough : AreEnough files judgi
       (read-never task.seen (refused_seen task.seen) (seen_of batches file.candidates) (λ bytes entries. Ends (poll.Polls task batches file entries))
       (λ why. tt) (λ v entries at_v is_v. polls-never task batches file entries))))
 
+  polls_each-never : (task : PollEachTask) (batches : Batches) (file : FileContent) (entries : List Entry) →
+      poll_each.PollsEach task batches file entries (Answered Spent text) → ⊥
+  polls_each-never task batches file entries is = by (unseen_draw task.seed cards entries (poll_each.draws_asked task batches file entries)) is where
+    cards : ℕ
+    cards = poll_each.cards task batches file entries
+
+    by : (o : Option ℕ) → Answered Spent text ≡ unwrap_or (option_map (λ k. Refused task.seen (no_record_text (drawn_card task.seed k cards) k)) o)
+        (poll_each.answered task batches file entries) → ⊥
+    by None is = told-never (poll_each.is_yes task batches file entries) (cc is)
+    by (Some k) is = cc is
+
+  poll_each-never : (task : PollEachTask) → task.assertions ≡ judging.assertions → Nodes task.nodes ≡ judging.budget →
+      Never files text (poll_each.script task)
+  poll_each-never task name same =
+      read-never task.manifest (refused_manifest task.manifest) manifest_of (λ bytes batches. poll_each.after_manifest task batches) (λ why. tt)
+      (λ m batches at_m is_m. read-never task.assertions (refused_assertions task.assertions) assertion_file_of
+      (λ bytes file. poll_each.after_assertions task batches file) (λ why. tt)
+      (λ a file at_a is_a. covered-never task.nodes file (poll_each.after_cover task batches file)
+      (few_there task.assertions (Nodes task.nodes) name same a file at_a is_a)
+      (read-never task.seen (refused_seen task.seen) (seen_of batches file.candidates) (λ bytes entries. Ends (poll_each.PollsEach task batches file entries))
+      (λ why. tt) (λ v entries at_v is_v. polls_each-never task batches file entries))))
+
 -- ---- each command
 
 judged-is : (files : List File) (own judging : Judging) → Some own ≡ Some judging → AreEnough files judging → AreEnough files own
@@ -284,6 +308,9 @@ script-never files (Audit task) judging text is enough =
 script-never files (Poll task) judging text is enough =
     let own : Judging = record { assertions = task.assertions; budget = Nodes task.nodes } in
     poll-never files own (judged-is files own judging is enough) text task refl refl
+script-never files (PollEach task) judging text is enough =
+    let own : Judging = record { assertions = task.assertions; budget = Nodes task.nodes } in
+    poll_each-never files own (judged-is files own judging is enough) text task refl refl
 script-never files _ judging text is enough = absurd (cc is)
 
 pub never_spent : (words : List (List ℕ)) (files : List File) (command : Command) (judging : Judging) → command_of words ≡ Some command →

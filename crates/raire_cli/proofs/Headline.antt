@@ -1,5 +1,6 @@
 -- Status 0 of a search comes with a file that confirms the winner, and status 5 with reason for a full count.
-use Rattle.std.proofs.Common.{◌≡◌, ℕ, true, List, Some, Ok, refl, ap, subst, ◌∙◌}
+use Rattle.std.proofs.Common.{◌≡◌, ℕ, true, List, [], Some, Ok, refl, ap, ap₂, subst, ◌∙◌}
+use Rattle.std.specs.Prelude.{unwrap_or, IsSomeAnd}
 use Rattle.desk.specs.Desk.{File, held_bytes}
 use Rattle.ballot_reader.specs.Ballots.{BallotFile}
 use Rattle.ballot_reader.specs.Grammar.{ballots_of}
@@ -18,7 +19,7 @@ use Rattle.search_commands.proofs.Searches.{done_is, found_by, full_count_is}
 use Rattle.command_line.specs.declared.commands.Command.TheVariants.{Search}
 use Rattle.raire_cli.specs.Asks.{Asks}
 use Rattle.raire_cli.specs.Answers.{asked, asked_by}
-use Rattle.raire_cli.specs.Confirmation.{ConfirmsAsked, GivesReason}
+use Rattle.raire_cli.specs.Confirmation.{ConfirmsAsked, GivesReason, IsHardest}
 use Rattle.raire_cli.proofs.Confirmed.{certificate-confirms, confirms-least}
 use Rattle.raire_cli.proofs.Said.{IsSaid, said}
 
@@ -78,13 +79,14 @@ module _ (words : List (List ℕ)) (files : List File) (asks : Asks Search words
         winner = c.winner;
         asks = record { search = asks; bytes = bytes; held = held; accepted = is; cards = cards; won = c.won };
         elected = c.decided;
-        order = has.file.order;
+        order = c.order;
         margin = has.file.margin;
         below = has.floor;
-        reason = confirms.order;
+        reason = subst (λ order. IsSomeAnd order (λ order. IsHardest (candidate_count ballots) ballots.rankings c.winner order has.file.margin))
+            (ap (λ (f : Content). f.order) c.is) confirms.order;
         least = confirms-least (candidate_count ballots) ballots.rankings c.winner has.file confirms;
-        shown = has.shown ∙ ap (λ names. full_count_lines (order_text names has.file.order) has.file.margin asks.task.floor)
-            (ap (λ (f : Content). f.candidates) c.is);
+        shown = has.shown ∙ ap₂ (λ names order. full_count_lines (order_text names (unwrap_or order [])) has.file.margin asks.task.floor)
+            (ap (λ (f : Content). f.candidates) c.is) (ap (λ (f : Content). f.order) c.is);
       }
 
   pub confirms_asked : (text : List ℕ) → ComesTo (AsHeld files) (asked words) (Answered Done text) → Confirmed text

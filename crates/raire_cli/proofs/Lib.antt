@@ -1,14 +1,19 @@
 mod Begun
 mod Confirmed
 pub mod Headline
+pub mod Fewest
 mod Accepted
 pub mod Trims
 pub mod Said
+pub mod Adoptions
+mod AdoptionsSpent
 mod Unrefused
 pub mod NextRounds
 mod Audited
 mod Opened
 mod Polled
+pub mod PolledEach
+mod PollsComplete
 mod Enough
 pub mod Limited
 pub mod EitherBudget

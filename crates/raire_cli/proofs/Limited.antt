@@ -1,4 +1,4 @@
--- Where an audit signs its session off, the risks were within the limit.
+-- If an audit signs its session off, the risks were within the limit.
 use Rattle.std.proofs.Common.{ℕ, List, IsTrue}
 use Rattle.desk.specs.Desk.{File}
 use Rattle.session_state.specs.Claims.{values_of}

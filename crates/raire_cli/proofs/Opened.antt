@@ -45,7 +45,7 @@ said_opened task ballots batches file digests text ends = by (is_accepted task.b
   by false out checks = absurd (not_checked task.budget ballots file Done text (inl refl) out checks)
 
 module _ (words : List (List ℕ)) (files : List File) (asks : Asks Open words) (text : List ℕ) where
-  -- the words open a session, and this tells it
+  -- the words open a session, and this prints it
   abbrev IsOpen : Type 0
   IsOpen = (session : Content) × Opens words files session × (text ≡ session_text session)
 

@@ -126,7 +126,7 @@ module _ (words : List (List ℕ)) (files : List File) (asks : Asks AuditPlurali
   -- ---- the session goes on
 
   module _ (of : IsKind kind) where
-    -- the session of the words goes on, and this tells it
+    -- the session of the words goes on, and this prints it
     abbrev Gone : Type 0
     Gone = (next : Content) × PluralGoesOn words files next × (text ≡ session_text next) × (kind ≡ kind_of next.session)
 
@@ -193,7 +193,7 @@ module _ (words : List (List ℕ)) (files : List File) (asks : Asks AuditPlurali
 -- ---- a tie
 
 module _ (words : List (List ℕ)) (files : List File) (asks : Asks AuditPlurality words) (text : List ℕ) where
-  -- a round tells no tie
+  -- a round prints no tie
   session_tells_none : (signed : Bool) → TieKind ≡ confirmed_kind signed → ⊥
   session_tells_none true is = cc is
   session_tells_none false is = cc is

@@ -1,4 +1,4 @@
--- Where an audit of a plurality contest signs its session off, the risks were within the limit.
+-- If an audit of a plurality contest signs its session off, the risks were within the limit.
 use Rattle.std.proofs.Common.{ℕ, List, IsTrue}
 use Rattle.desk.specs.Desk.{File}
 use Rattle.plurality.specs.Plural.{values_of}

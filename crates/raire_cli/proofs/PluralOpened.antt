@@ -1,4 +1,4 @@
--- Status 0 where a plurality session is opened comes with that session, and status 3 with the tie.
+-- If a plurality session is opened, status 0 comes with that session, and status 3 with the tie.
 use Rattle.std.proofs.Common.{◌≡◌, inl, ℕ, ◌≤◌, List, length, Some, Result, Ok, Err, refl, subst}
 use Rattle.sha2.specs.Sha256.{sha256}
 use Rattle.desk.specs.Desk.{File, held_bytes}

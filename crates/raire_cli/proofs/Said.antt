@@ -1,4 +1,4 @@
--- What was said of files where a command answers.
+-- What was said of files if a command answers.
 use Rattle.std.proofs.Common.{◌≡◌, inl, inr, ℕ, ◌≤◌, length, nat_le, Bool, true, false, if◌then◌else◌, List, Option, None, Some, Result, Ok, Err, sym, ap, subst, ◌∙◌, leb-true, le-leb, refl}
 use Rattle.std.specs.Prelude.{ok_or, option_map}
 use Rattle.desk.specs.Desk.{File, held_bytes}
@@ -99,7 +99,7 @@ module _ {A Why : Type 0} (files : List File) (name : List ℕ) (words : Why →
     saying v rest =
         (bytes, read_whole name files bytes held is_short, subst (λ r. Concludes (AsHeld files) (go_on (told words r) (next bytes)) v) (sym is) rest)
 
-    -- it comes to nothing else
+    -- it has no other end
     pub says : (due : Outcome) → May (AsHeld files) (Read name (λ bytes. go_on (told words (read bytes)) (next bytes))) due →
         May (AsHeld files) (next bytes value) due
     says due (inl (reading, there, stops)) =

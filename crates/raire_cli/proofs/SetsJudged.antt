@@ -1,5 +1,5 @@
--- More sets count in the check of an assertion file exactly where the check is spent, also before a file is trimmed, before a session is
--- opened, and before a round.
+-- More sets count in the check of an assertion file exactly if the check is spent, also before a trim, before a session is opened, and
+-- before a round.
 use Rattle.std.proofs.Common.{◌≡◌, ◌⊎◌, inl, inr, ℕ, ◌<◌, ◌==◌, Bool, true, false, if◌then◌else◌, List, [], ◌∷◌, Option, None, Some, Result, Ok, Err, MatchBool, refl, sym, ap, subst, arith, eqb-true, eq-eqb, lt-ltb, ◌∙◌}
 use Rattle.std.proofs.lemmas.Bool.{cases_Bool, cases_lt}
 use Rattle.sha2.specs.Sha256.{sha256}

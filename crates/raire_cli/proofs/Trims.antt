@@ -1,5 +1,5 @@
 -- Status 0 of a trim comes with the trimmed file.
-use Rattle.std.proofs.Common.{◌≡◌, ℕ, List, [], length, Option, Some, None, IfSome, Result, Ok, Err, refl, sym, subst}
+use Rattle.std.proofs.Common.{◌≡◌, ◌≤◌, ℕ, List, [], length, Option, Some, None, IfSome, Result, Ok, Err, refl, sym, subst}
 use Rattle.std.specs.Prelude.{option_map}
 use Rattle.desk.specs.Desk.{File}
 use Rattle.budget.specs.declared.budget.Budget.{Budget}
@@ -14,12 +14,13 @@ use Rattle.cover_checker.specs.Checks.{IsAnswer}
 use Rattle.cover_checker.specs.Findings.{Answer}
 use Rattle.cover_checker.specs.declared.checked.Checked.TheVariants.{OtherContest, OtherWinner, OtherMargin, Stands, NotLeast, NotAlternative, Harder, OtherDraws, Accepted}
 use Rattle.cover_checker.specs.declared.checked.CheckFault.TheVariants.{Spent, SpentSets, Memory}
-use Rattle.trimmer.specs.Trimmed.{draws_left, left_of as claims_left, trimmed, with_draws}
+use Rattle.cover_checker.proofs.Exactly.{accepted-covered}
+use Rattle.trimmer.specs.Trimmed.{draws_left, left_of as claims_left, margin_left, trimmed, with_draws}
 use Rattle.trimmer.specs.declared.fault.TrimFault.{TrimFault}
 use Rattle.trimmer.specs.declared.fault.TrimFault.TheVariants.{Spent as TrimSpent, SpentSets as TrimSpentSets, Memory as TrimMemory}
 use Rattle.assertions.specs.declared.assertion.Claim.{Claim}
 use Rattle.trimmer.specs.Laws.{IsPartOf}
-use Rattle.trimmer.proofs.Accepted.{all-part, trimmed_is_accepted}
+use Rattle.trimmer.proofs.Accepted.{all-part, some-left, sound-margin, trimmed_is_accepted}
 use Rattle.trimmer.proofs.Kept.{trimmed_is_irredundant}
 use Rattle.trimmer.proofs.Draws.{draws-all, draws-many, trimmed_is_part}
 use Rattle.trimmer.proofs.Lefts.{from_trimmed}
@@ -60,7 +61,7 @@ trimmed_answer budget file (Err (Spent last)) text told = accepted_answer file (
 trimmed_answer budget file (Err (SpentSets sets)) text told = accepted_answer file (Err (SpentSets sets)) text told
 trimmed_answer budget file (Err Memory) text told = accepted_answer file (Err Memory) text told
 
--- the plan of the claims that are left is one where that of all claims is
+-- the plan of the claims that are left is a plan if that of all claims is
 left_sound : (budget : Budget) (file : Content) (claims : List Claim) → claims_left budget file [] file.claims ≡ Ok claims → (plan : Option Plan) →
     IfSome plan (IsSoundPlan file.records (length file.claims)) →
     IfSome (option_map (λ (plan : Plan). with_draws (draws_left budget file [] file.claims plan.draws) plan) plan) (IsSoundPlan file.records (length claims))
@@ -77,9 +78,9 @@ left_sound budget file claims left (Some plan) sound = record {
 }
 
 -- a part of the claims of a file that was read reads back
-part_sound : (file : Content) (claims : List Claim) (plan : Option Plan) → IsPartOf claims file.claims → IsSound file →
-    IfSome plan (IsSoundPlan file.records (length claims)) → IsSound (record file { claims = claims; plan = plan })
-part_sound file claims plan part sound planned = record {
+part_sound : (file : Content) (claims : List Claim) (plan : Option Plan) → IsPartOf claims file.claims → 1 ≤ length claims → IsSound file →
+    IfSome plan (IsSoundPlan file.records (length claims)) → IsSound (record file { margin = margin_left file claims; claims = claims; plan = plan })
+part_sound file claims plan part some sound planned = record {
   fewest = sound.fewest;
   most = sound.most;
   differ = sound.differ;
@@ -87,25 +88,28 @@ part_sound file claims plan part sound planned = record {
   most_records = sound.most_records;
   winner = sound.winner;
   order = sound.order;
-  margin = sound.margin;
+  margin = sound-margin file claims sound.margin some (all-part (IsSoundClaim (candidate_count file) file.records) part sound.claims);
   claims = all-part (IsSoundClaim (candidate_count file) file.records) part sound.claims;
   plan = planned;
 }
 
-part_names : (file : Content) (claims : List Claim) (plan : Option Plan) → HasNames file → HasNames (record file { claims = claims; plan = plan })
+part_names : (file : Content) (claims : List Claim) (plan : Option Plan) → HasNames file →
+    HasNames (record file { margin = margin_left file claims; claims = claims; plan = plan })
 part_names file claims plan names = record { contest = names.contest; candidates = names.candidates }
 
-pub trimmed_reads_back : (bytes : List ℕ) (budget : Budget) (file left : Content) → assertion_file_of bytes ≡ Ok file → trimmed budget file ≡ Ok left →
-    assertion_file_of (assertion_file_text left) ≡ Ok left
-trimmed_reads_back bytes budget file left read is =
+pub trimmed_reads_back : (bytes : List ℕ) (budget : Budget) (ballots : BallotFile) (file left : Content) → assertion_file_of bytes ≡ Ok file →
+    IsAnswer budget ballots file (Ok Accepted) → trimmed budget file ≡ Ok left → assertion_file_of (assertion_file_text left) ≡ Ok left
+trimmed_reads_back bytes budget ballots file left read accepted is =
     let (part, draws, terms, same) = trimmed_is_part budget file left is in
     let (sound, names) = read_keeps bytes file read in
     let t = from_trimmed budget file left is in
+    let some = some-left budget file left.claims sound t.claims (accepted-covered budget ballots file sound accepted) in
     let planned : IfSome left.plan (IsSoundPlan file.records (length left.claims)) =
     subst (λ plan. IfSome plan (IsSoundPlan file.records (length left.claims))) (sym t.plan)
     (left_sound budget file left.claims t.claims file.plan sound.plan) in
     subst (λ content. assertion_file_of (assertion_file_text content) ≡ Ok content) (sym same)
-    (printed_reads_back (record file { claims = left.claims; plan = left.plan }) (part_sound file left.claims left.plan part sound planned)
+    (printed_reads_back (record file { margin = margin_left file left.claims; claims = left.claims; plan = left.plan })
+    (part_sound file left.claims left.plan part some sound planned)
     (part_names file left.claims left.plan names))
 
 module _ (words : List (List ℕ)) (files : List File) (asks : Asks Trim words) (text : List ℕ) where
@@ -148,7 +152,7 @@ module _ (words : List (List ℕ)) (files : List File) (asks : Asks Trim words) 
       leaves is.value its.value (record { of_ballots = says_of is; of_assertions = says_of its }) its.rest
 
   pub reads_back : (l : Left) → assertion_file_of (assertion_file_text l.left) ≡ Ok l.left
-  reads_back l = trimmed_reads_back l.are.of_assertions.bytes asks.task.budget l.file l.left l.are.of_assertions.is l.is
+  reads_back l = trimmed_reads_back l.are.of_assertions.bytes asks.task.budget l.ballots l.file l.left l.are.of_assertions.is l.accepts l.is
 
   pub accepted_left : (l : Left) → IsAnswer asks.task.budget l.ballots l.left (Ok Accepted)
   accepted_left l = trimmed_is_accepted asks.task.budget l.ballots l.file l.left (read_is_sound l.are.of_assertions.bytes l.file l.are.of_assertions.is) l.accepts l.is

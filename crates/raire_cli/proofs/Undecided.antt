@@ -22,7 +22,7 @@ use Rattle.command.specs.declared.trial.TrialTask.{TrialTask}
 use Rattle.command_line.specs.Laws.{IsChecked}
 use Rattle.command_line.specs.Line.{command_of}
 use Rattle.command_line.specs.declared.commands.Command.{Command}
-use Rattle.command_line.specs.declared.commands.Command.TheVariants.{Search, Tabulate, Trial, OpenPlurality, AuditPlurality}
+use Rattle.command_line.specs.declared.commands.Command.TheVariants.{Search, SearchFewest, Tabulate, Trial, OpenPlurality, AuditPlurality}
 use Rattle.command_line.proofs.Checked.{are_checked}
 use Rattle.input_files.specs.Judged.{told, go_on}
 use Rattle.input_files.specs.Refusals.{refused_ballots}
@@ -30,12 +30,15 @@ use Rattle.contest_search.specs.Budget.{IsCertificateSpent, IsRaceSpent, IsSpent
 use Rattle.contest_search.specs.Certificate.{margin_of}
 use Rattle.contest_search.specs.Contest.{candidate_count, IsOther, IsUndecided, IsWon}
 use Rattle.contest_search.proofs.Contests.{winner-below, winner_exists}
+use Rattle.contest_search.proofs.FewestNeeded.{never_told}
 use Rattle.contest_search.proofs.ReadBallots.{ballots_fit}
 use Rattle.search_commands.specs.Ends.{HasSpent, HasTie}
 use Rattle.search_commands.specs.Search.{Finds, Searches}
+use Rattle.search_commands.specs.SearchFewest as search_fewest
 use Rattle.search_commands.specs.Tabulate.{Tabulates}
 use Rattle.search_commands.specs.Trial.{contest_of, Tries}
 use Rattle.search_commands.proofs.Ends.{undecided_has_tie}
+use Rattle.search_commands.proofs.Fewest as fewest_found
 use Rattle.search_commands.proofs.Searches.{found_by, searched_with, spent_is}
 use Rattle.raire_cli.specs.Answers.{asked, asked_by, script_of}
 use Rattle.raire_cli.specs.Held.{AreBallots}
@@ -112,6 +115,10 @@ module _ (words : List (List ℕ)) (files : List File) (text : List ℕ) where
       let (ballots, are, ends) = said_of files task.ballots task.contest (Searches task) Tie text comes in
       let (cards, finds) = found_by task ballots Tie text ends in
       inl (told_of (Search task) ballots is (are, cards) (tie_found text task.budget task.floor task.plan ballots finds))
+  tells (Some (SearchFewest task)) is comes =
+      let (ballots, are, ends) = said_of files task.ballots task.contest (search_fewest.Searches task) Tie text comes in
+      let (cards, finds) = fewest_found.found_by task ballots Tie text ends in
+      inl (told_of (SearchFewest task) ballots is (are, cards) (fewest_found.tie_is task.sets task.floor task.plan ballots text finds).0)
   tells (Some (Tabulate task)) is comes =
       let (ballots, are, ends) = said_of files task.ballots task.contest (Tabulates task.nodes) Tie text comes in
       inl (told_of (Tabulate task) ballots is are (tie_tabulated text task.nodes ballots ends))
@@ -135,6 +142,7 @@ module _ (files : List File) (ballots : BallotFile) where
 
   fewest_of : (command : Command) → IsChecked command → IsAbout files command ballots → FEWEST_CANDIDATES ≤ candidate_count ballots
   fewest_of (Search task) checked (are, cards) = fewest_in task.ballots task.contest are
+  fewest_of (SearchFewest task) checked (are, cards) = fewest_in task.ballots task.contest are
   fewest_of (Tabulate task) checked are = fewest_in task.ballots task.contest are
   fewest_of (Trial task) checked is =
       let long : candidate_count ballots ≡ task.candidates =
@@ -148,6 +156,9 @@ module _ (files : List File) (ballots : BallotFile) where
   comes_to_tie text tie (Search task) (are, cards) told =
       comes_of files task.ballots task.contest (Searches task) ballots are (Answered Tie text)
       (searched_with task ballots (Answered Tie text) cards (inr (inl (text, (tie, told), refl))))
+  comes_to_tie text tie (SearchFewest task) (are, cards) told =
+      comes_of files task.ballots task.contest (search_fewest.Searches task) ballots are (Answered Tie text)
+      (fewest_found.searched_with task ballots (Answered Tie text) cards (inr (inl (text, (tie, told), refl))))
   comes_to_tie text tie (Tabulate task) are told =
       comes_of files task.ballots task.contest (Tabulates task.nodes) ballots are (Answered Tie text) (inr (inl (text, tie, refl)))
   comes_to_tie text tie (Trial task) is told = inr (inl (text, subst (λ contest. HasTie contest text × IsTold task.budget contest) is (tie, told), refl))
@@ -182,7 +193,7 @@ module _ (ballots : BallotFile) (nodes : ℕ) (fewest : FEWEST_CANDIDATES ≤ ca
   never_stopped text (inr (inl (other, has, e))) = cc e
   never_stopped text (inr (inr (other, has, e))) = let is = has.is in within is.winner has.last is.won is.named is.cause
 
--- of sets either
+-- both by sets
 spent_never : (budget : Budget) (ballots : BallotFile) (text : List ℕ) → FEWEST_CANDIDATES ≤ candidate_count ballots → IsUndecided ballots →
     SufficesForTie budget ballots → HasSpent budget ballots text → ⊥
 spent_never (Nodes nodes) ballots text fewest undecided suffices spent =
@@ -195,7 +206,7 @@ spent_never (Sets sets) ballots text fewest undecided suffices spent =
     let enough = suffices is.winner is.won (omega (arith, some, hard)) in
     omega (arith, above, enough)
 
--- and then the tie can be told
+-- and then the tie can be printed
 told_within : (budget : Budget) (ballots : BallotFile) → FEWEST_CANDIDATES ≤ candidate_count ballots → SufficesForTie budget ballots → IsTold budget ballots
 told_within (Nodes nodes) ballots fewest suffices = tt
 told_within (Sets sets) ballots fewest suffices =
@@ -215,6 +226,13 @@ module _ (files : List File) (ballots : BallotFile) (text : List ℕ) (fewest : 
       let (has, finds) = found_by task ballots Spent text
       (ends_there files task.ballots task.contest (Searches task) ballots are Spent text comes) in
       spent_never task.budget ballots text fewest undecided budget (spent_is task.budget task.floor task.plan ballots text finds)
+  never_spent (SearchFewest task) (are, cards) budget comes =
+      let (has, finds) = fewest_found.found_by task ballots Spent text
+      (ends_there files task.ballots task.contest (search_fewest.Searches task) ballots are Spent text comes) in
+      let its = fewest_found.spent_is task.sets task.floor task.plan ballots text finds in
+      let two : 1 < candidate_count ballots = omega (arith, fewest) in
+      never_told ballots task.sets its.order its.margin two undecided
+      (record { winner = its.is.winner; won = its.is.won; within = budget its.is.winner its.is.won }) its.is
   never_spent (Tabulate task) are budget comes =
       never_stopped ballots task.nodes fewest undecided budget text
       (ends_there files task.ballots task.contest (Tabulates task.nodes) ballots are Spent text comes)

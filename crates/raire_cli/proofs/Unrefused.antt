@@ -1,4 +1,4 @@
--- What is so where a round of an audit isn't refused.
+-- What holds if a round of an audit isn't refused.
 use Rattle.std.proofs.Common.{◌≡◌, inl, inr, ℕ, ◌+◌, ◌<◌, Bool, true, false, if◌then◌else◌, List, [], ◌∷◌, take, Option, None, Some, refl, sym, ap, ◌∙◌}
 use Rattle.std.specs.Prelude.{option_map, find}
 use Rattle.std.specs.List.{range_with_len}
@@ -55,7 +55,7 @@ all_recorded session seen seed cards entries draws none = by (find _ (range_with
   by None none = refl
   by (Some k) none = absurd (cc none)
 
--- it is told where it isn't none
+-- it is printed if there is one
 abbrev IsTold : List ℕ → List ℕ → Option AdvanceFault → Type 0
 IsTold session seen fault = refused_by session seen fault ≡ None → fault ≡ None
 

@@ -19,7 +19,8 @@ pub record HoldsAsked (words : List (List ℕ)) (files : List File) (file : Cont
 
 -- ---- what `run` promises
 
--- Status 0 of a check: its assertion file holds of the ballots, and `out` has `yes`, the number of its assertions and its margin.
+-- Status 0 of a check: its assertion file holds of the ballots, and `out` has `yes`, the number of its assertions and its margin; of a file
+-- without an order also that this isn't said to be the best one.
 abbrev pub IsUpheld : Option (List File) → List (List ℕ) → ℕ → Writing → Type 0
 IsUpheld held words status out = IfSome held (λ files. Asks Check words → status ≡ 0 →
     (file : Content) × HoldsAsked words files file × Took out (yes_text file))

@@ -19,7 +19,7 @@ use Rattle.raire_cli.specs.NextRound.{IsNextRound, WereWithin}
 use Rattle.raire_cli.specs.RoundFiles.{AreRoundFiles, RoundBytes, RoundInputs, SayRound}
 use Rattle.raire_cli.specs.Basis.{AreHeld, Basis, BelongTogether, FileBytes, FileNames, Say, digests_of}
 
--- the names of the files that the session stands on
+-- the names of the files that the session is about
 abbrev pub names_of : AuditTask → FileNames
 names_of task =
     record { ballots = task.ballots; manifest = task.manifest; assertions = task.assertions }
@@ -65,8 +65,8 @@ WereAllWithin on =
 
 -- ---- what `run` promises
 
--- Status 0 and 10 of an audit: `out` has the session with one round more, which is that of its files. It is 0 exactly where the
--- session is signed off. Then the exact risk of each assertion was within the limit.
+-- Status 0 and 10 of an audit: `out` has the session with one round more, which is that of its files. It is 0 exactly if the session is
+-- signed off. Then the exact risk of each assertion was within the limit.
 abbrev pub IsAudited : Option (List File) → List (List ℕ) → ℕ → Writing → Type 0
 IsAudited held words status out =
     IfSome held (λ files. Asks Audit words → (status ≡ 0) ⊎ (status ≡ 10) →

@@ -1,4 +1,4 @@
--- What an audit stands on: the ballots of a contest, the manifest of their cards, and assertions about them.
+-- The base of an audit: the ballots of a contest, the manifest of their cards, and assertions about them.
 use Rattle.std.specs.Prelude.{◌≡◌, ℕ, List, Option, None, Some, Ok}
 use Rattle.sha2.specs.Sha256.{sha256}
 use Rattle.desk.specs.Desk.{File, held_bytes}
@@ -45,7 +45,7 @@ pub record Basis : Type 0 where
   pub batches : Batches
   pub file : Content
 
--- the bytes say so, of this contest, or of the only one where none is named
+-- the bytes say so, for this contest, or for the only one if none is named
 pub record Say (contest : Option Id) (bytes : FileBytes) (basis : Basis) : Type 0 where
   pub ballots : ballots_of bytes.ballots contest ≡ Ok basis.ballots
   pub manifest : manifest_of bytes.manifest ≡ Ok basis.batches

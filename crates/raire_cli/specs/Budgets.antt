@@ -8,34 +8,37 @@ use Rattle.budget.specs.declared.budget.Budget.TheVariants.{Nodes, Sets}
 use Rattle.contest_search.specs.Budget.{nodes_for, sets_of}
 use Rattle.contest_search.specs.Contest.{candidate_count, IsOther, IsWon}
 use Rattle.command_line.specs.declared.commands.Command.{Command}
-use Rattle.command_line.specs.declared.commands.Command.TheVariants.{Search, Tabulate, Trial, Check, Trim, Open, Audit, Poll, Contests}
+use Rattle.command_line.specs.declared.commands.Command.TheVariants.{Search, SearchFewest, Tabulate, Trial, Check, Trim, Adopt, Open, Audit, Poll, PollEach, Contests}
 
 -- the budget of a command; no nodes, which are fewer than those of any budget, of a command that has none
 abbrev pub budget_of : Command → Budget
 budget_of (Search task) = task.budget
+budget_of (SearchFewest task) = Sets task.sets
 budget_of (Tabulate task) = Nodes task.nodes
 budget_of (Trial task) = task.budget
 budget_of (Check task) = task.budget
 budget_of (Trim task) = task.budget
+budget_of (Adopt task) = task.budget
 budget_of (Open task) = task.budget
 budget_of (Audit task) = task.budget
 budget_of (Poll task) = Nodes task.nodes
+budget_of (PollEach task) = Nodes task.nodes
 budget_of (Contests task) = Nodes task.nodes
 budget_of _ = Nodes 0
 
--- the hardness of the order that a search starts with, where this is the tabulated order
+-- the hardness of the order that a search starts with, if this is the tabulated order
 abbrev pub start_of : BallotFile → List ℕ → ℕ
 start_of ballots tabulated = first_bound (candidate_count ballots) ballots.rankings tabulated
 
--- where this is the tabulated order, and this candidate has won: there are as many nodes as a search may need for each other
--- candidate, or as many sets as it needs
+-- if this is the tabulated order and this candidate has won: there are as many nodes as a search may need for each other candidate, or as
+-- many sets as it needs
 abbrev pub Suffices : Budget → BallotFile → List ℕ → ℕ → Type 0
 Suffices (Nodes nodes) ballots tabulated winner =
     (c : ℕ) → IsOther ballots winner c → nodes_for ballots tabulated winner c ≤ nodes
 Suffices (Sets sets) ballots tabulated winner = sets_of ballots winner ≤ sets
 
--- of a contest that isn't decided: there are as many nodes as the race may need for each candidate whom the tabulated order doesn't
--- elect, or as many sets as a search needs, if the order that it starts with doesn't tell
+-- if the contest isn't decided: there are as many nodes as the race may need for each candidate whom the tabulated order doesn't elect,
+-- or as many sets as a search needs, unless the order that it starts with decides
 abbrev pub SufficesForTie : Budget → BallotFile → Type 0
 SufficesForTie (Nodes nodes) ballots =
     (winner c : ℕ) (won : IsWon ballots winner) → IsOther ballots winner c →

@@ -1,5 +1,5 @@
 -- What it means that assertions confirm the winner of some records.
-use Rattle.std.specs.Prelude.{◌≡◌, ◌≤◌, ◌<◌, ℕ, List, All, Contains, Option, Some, IfSome, Ok, IsTrue, length, option_map}
+use Rattle.std.specs.Prelude.{◌≡◌, ◌≤◌, ◌<◌, ℕ, List, All, Contains, Option, Some, IfSome, IsSomeAnd, Ok, IsTrue, length, option_map}
 use Rattle.desk.specs.Desk.{File, held_bytes}
 use Rattle.assertions.specs.declared.assertion.Assertion.{Assertion}
 use Rattle.assertions.specs.declared.assertion.Claim.{Claim}
@@ -46,7 +46,8 @@ pub record Confirms (n : ℕ) (records : List (List ℕ)) (winner : ℕ) (file :
   -- the margin is the smallest of theirs
   pub reached : (claim : Claim) × Contains file.claims claim × (claim.margin ≡ file.margin)
   pub smallest : All (λ claim. file.margin ≤ claim.margin) file.claims
-  pub order : IsHardest n records winner file.order file.margin
+  -- by the order that it gives, no choice of assertions has a larger one
+  pub order : IsSomeAnd file.order (λ order. IsHardest n records winner order file.margin)
 
 -- ---- a search
 
@@ -74,7 +75,7 @@ pub record ConfirmsAsked (words : List (List ℕ)) (files : List File) (file : C
   pub named : file.winner ≡ winner
   pub floor : asks.search.task.floor ≤ file.margin
   pub confirms : Confirms (candidate_count ballots) ballots.rankings winner file
-  -- it has the clean draws of its assertions, where the words give a number of cards
+  -- it has the clean draws of its assertions, if the words give a number of cards
   pub plan : file.plan ≡ option_map (plan_by file) asks.search.task.plan
 
 -- this is a text that gives an order as reason for a full count: it elects another candidate than the winner of the contest that was
@@ -94,17 +95,9 @@ pub record GivesReason (words : List (List ℕ)) (files : List File) (text : Lis
 
 -- ---- what `run` promises
 
--- Status 0 of a search: each way of breaking ties elects the winner. The printed assertions are all true of the records, and refute
--- every elimination order that elects another candidate. The printed margin is the smallest of theirs, and no true assertion of larger
--- margin refutes the printed order. Where the words give a number of cards, the printed draws are those of a clean audit; else there are
--- none.
+-- Status 0 of a search: each way of breaking ties elects the winner. The printed assertions are all true of the records, and refute every
+-- elimination order that elects another candidate. The printed margin is the smallest of theirs, and no true assertion of larger margin
+-- refutes the printed order. If the words give a number of cards, the printed draws are those of a clean audit; otherwise there are none.
 abbrev pub IsConfirmed : Option (List File) → List (List ℕ) → ℕ → Writing → Type 0
 IsConfirmed held words status out = IfSome held (λ files. Asks Search words → status ≡ 0 →
     (file : Content) × ConfirmsAsked words files file × Took out (assertion_file_text file))
-
--- Status 5: each way of breaking ties elects the winner. An order that elects another candidate is printed, and no true
--- assertion whose margin reaches the floor refutes it.
-abbrev pub IsReasoned : Option (List File) → List (List ℕ) → ℕ → Writing → Type 0
-IsReasoned held words status out =
-    IfSome held (λ files. status ≡ 5 →
-    (text : List ℕ) × GivesReason words files text × Took out text)

@@ -85,7 +85,7 @@ IsRefusedAnyway words files =
 
 -- ---- what `run` promises
 
--- Status 0 and 10 of an audit of all contests: `out` tells how each contest of the file ends. It is 0 exactly where each is signed off.
+-- Status 0 and 10 of an audit of all contests: `out` says how each contest of the file ends. It is 0 exactly if each is signed off.
 abbrev pub IsAuditedByContest : Option (List File) → List (List ℕ) → ℕ → Writing → Type 0
 IsAuditedByContest held words status out =
     IfSome held (λ files. Asks Contests words → (status ≡ 0) ⊎ (status ≡ 10) →

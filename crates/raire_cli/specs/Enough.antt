@@ -1,4 +1,4 @@
--- How large a budget suffices where an assertion file is judged.
+-- How large a budget is enough if an assertion file is judged.
 use Rattle.std.specs.Prelude.{◌≡◌, ◌≢◌, ℕ, List, Option, None, Some, IfSome, Ok}
 use Rattle.budget.specs.declared.budget.Budget.{Budget}
 use Rattle.budget.specs.declared.budget.Budget.TheVariants.{Nodes}
@@ -8,7 +8,7 @@ use Rattle.assertion_file.specs.Reading.{assertion_file_of}
 use Rattle.cover_checker.specs.Covers.{IsEnoughFor}
 use Rattle.command_line.specs.Line.{command_of}
 use Rattle.command_line.specs.declared.commands.Command.{Command}
-use Rattle.command_line.specs.declared.commands.Command.TheVariants.{Check, Trim, Open, Audit, Poll}
+use Rattle.command_line.specs.declared.commands.Command.TheVariants.{Check, Trim, Open, Audit, Poll, PollEach}
 
 -- an assertion file, and the budget to judge it with
 pub record Judging : Type 0 where
@@ -22,9 +22,11 @@ judging_of (Trim task) = Some (record { assertions = task.assertions; budget = t
 judging_of (Open task) = Some (record { assertions = task.assertions; budget = task.budget })
 judging_of (Audit task) = Some (record { assertions = task.assertions; budget = task.budget })
 judging_of (Poll task) = Some (record { assertions = task.assertions; budget = Nodes task.nodes })
+judging_of (PollEach task) =
+    Some (record { assertions = task.assertions; budget = Nodes task.nodes })
 judging_of _ = None
 
--- where the assertion file has n candidates, there are at least 2 * (n - 1)! nodes, or 2^n - 3 sets
+-- if the assertion file has n candidates, there are at least 2 * (n - 1)! nodes, or 2^n - 3 sets
 abbrev pub AreEnough : List File → Judging → Type 0
 AreEnough files judging =
     (bytes : List ℕ) (file : Content) → held_bytes judging.assertions files ≡ Some bytes →

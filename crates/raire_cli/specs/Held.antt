@@ -6,6 +6,8 @@ use Rattle.ballot_reader.specs.Ballots.{BallotFile}
 use Rattle.ballot_reader.specs.Grammar.{ballots_of}
 use Rattle.assertion_file.specs.Content.{Content}
 use Rattle.assertion_file.specs.Reading.{assertion_file_of}
+use Rattle.claims_file.specs.Claimed.{Claimed}
+use Rattle.claims_file.specs.Reading.{claims_of}
 use Rattle.cli_base.specs.Script.{limit}
 
 -- a file of this name is held and not too long, and this is read of it
@@ -26,3 +28,9 @@ pub record AreChecked (files : List File) (name assertions : List ℕ) (contest 
     (ballots : BallotFile) (file : Content) : Type 0 where
   pub of_ballots : AreBallots files name contest ballots
   pub of_assertions : Says files assertions assertion_file_of file
+
+-- the two files of an adoption say this
+pub record AreClaimed (files : List File) (name claims : List ℕ) (contest : Option Id)
+    (ballots : BallotFile) (claimed : Claimed) : Type 0 where
+  pub of_ballots : AreBallots files name contest ballots
+  pub of_claims : Says files claims (claims_of ballots.contest ballots.candidates) claimed

@@ -2,9 +2,13 @@ pub mod Answers
 pub mod Asks
 pub mod Held
 pub mod Confirmation
+pub mod Fewest
 pub mod Acceptance
 pub mod Trims
+pub mod Adoptions
 pub mod Polls
+pub mod PollsEach
+pub mod PollsComplete
 pub mod Basis
 pub mod NextRound
 pub mod CardFiles

@@ -25,12 +25,12 @@ module _ (session : Content) (recorded : List Recorded) (entries : List Entry) w
 
   -- with these claims
   module _ (claims : List Audited) where
-    -- this is the session with a round to so many draws
+    -- this is the session with a round up to this number of draws
     pub record IsNextRound (draws : ℕ) (next : Content) : Type 0 where
       pub more : last_draws session.session.rounds < draws
-      -- what is seen of each drawn card is told
+      -- each drawn card has a record of what is seen
       pub all_told : without_record session.seed cards entries draws ≡ None
-      -- nothing else changes
+      -- nothing other than that changes
       pub added : next ≡ with_round session
           (round_to session.session.gamma claims recorded seen (drawn draws) draws)
       -- all rounds, earlier ones too, have the counts and the risks of the cards that the seed draws and of what is seen of them

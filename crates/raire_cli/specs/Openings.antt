@@ -10,7 +10,7 @@ use Rattle.command_line.specs.declared.commands.Command.TheVariants.{Open}
 use Rattle.raire_cli.specs.Asks.{Asks}
 use Rattle.raire_cli.specs.Basis.{AreHeld, Basis, BelongTogether, FileBytes, FileNames, Say, digests_of}
 
--- the names of the files that it is to stand on
+-- the names of the files that it is to be about
 abbrev pub names_of : OpenTask → FileNames
 names_of task =
     record { ballots = task.ballots; manifest = task.manifest; assertions = task.assertions }

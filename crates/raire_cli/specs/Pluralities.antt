@@ -41,7 +41,7 @@ pub record Counted : Type 0 where
   pub batches : Batches
   pub outcome : Outcome
 
--- the bytes say so, of this contest, or of the only one where none is named
+-- the bytes say so, for this contest, or for the only one if none is named
 pub record SayCounted (contest : Option Id) (bytes : CardBytes) (counted : Counted) : Type 0 where
   pub ballots : ballots_of bytes.ballots contest ≡ Ok counted.ballots
   pub manifest : manifest_of bytes.manifest ≡ Ok counted.batches
@@ -105,14 +105,14 @@ WerePluralWithin on =
 
 -- ---- what `run` promises
 
--- Status 0 where a plurality session is to be opened: `out` has the session that the words open.
+-- Status 0 if a plurality session is to be opened: `out` has the session that the words open.
 abbrev pub IsPluralityOpened : Option (List File) → List (List ℕ) → ℕ → Writing → Type 0
 IsPluralityOpened held words status out =
     IfSome held (λ files. Asks OpenPlurality words → status ≡ 0 →
     (session : Content) × OpensPlurality words files session × Took out (session_text session))
 
--- Status 0 and 10 of a round: `out` has the session with one round more, which is that of its files. It is 0 exactly where the
--- session is signed off. Then the exact risk of each claim was within the limit.
+-- Status 0 and 10 of a round: `out` has the session with one round more, which is that of its files. It is 0 exactly if the session is
+-- signed off. Then the exact risk of each claim was within the limit.
 abbrev pub IsPluralityAudited : Option (List File) → List (List ℕ) → ℕ → Writing → Type 0
 IsPluralityAudited held words status out =
     IfSome held (λ files. Asks AuditPlurality words → (status ≡ 0) ⊎ (status ≡ 10) →

@@ -25,7 +25,7 @@ pub record RoundOf (words : List (List ℕ)) (files : List File) (ballots : Ball
   pub said : session_of bytes ≡ Some session
   pub are : AreBallots files asks.task.ballots (Some session.contest) ballots
 
--- this tells who shares the greatest number of first preferences in the contest of the words, and that number, as the tie of a first
+-- this names those who share the greatest number of first preferences in the contest of the words, and that number, as the tie of a first
 -- round
 pub record TellsPluralityTie (words : List (List ℕ)) (files : List File)
     (text : List ℕ) : Type 0 where

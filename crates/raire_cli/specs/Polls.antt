@@ -1,14 +1,16 @@
 -- What it means that a poll confirms the claims of an assertion file, by what is seen of drawn cards alone.
-use Rattle.std.specs.Prelude.{◌≡◌, ◌⊎◌, ◌↔◌, ℕ, Bool, List, length, Option, None, Some, IfSome, Ok, IsTrue}
+use Rattle.std.specs.Prelude.{◌≡◌, ◌⊎◌, ◌↔◌, ℕ, Bool, List, length, map, All, Option, None, Some, IfSome, Ok, IsTrue}
 use Rattle.desk.specs.Desk.{File, held_bytes}
 use Rattle.assertion_file.specs.Content.{Content, candidate_count}
 use Rattle.assertion_file.specs.Reading.{assertion_file_of}
 use Rattle.manifest.specs.Cards.{Batches, cards_of}
 use Rattle.manifest.specs.Manifest.{manifest_of}
+use Rattle.assorters.specs.Cards.{seen_value}
+use Rattle.km_risk.specs.Exact.{is_within}
 use Rattle.seen_file.specs.Reading.{seen_of}
 use Rattle.seen_file.specs.Seen.{Entry}
 use Rattle.session_state.specs.Claims.{values_of}
-use Rattle.audit_session.specs.Going.{all_seen, drawn_cards}
+use Rattle.audit_session.specs.Going.{all_seen, drawn_cards, seen_at}
 use Rattle.audit_session.specs.Refusals.{unseen_draw}
 use Rattle.audit_laws.specs.Claims.{Cover, claimed}
 use Rattle.polling.specs.Polls.{is_confirmed}
@@ -60,6 +62,14 @@ module _ (task : PollTask) (inputs : PollInputs) where
       is_confirmed task.limit task.gamma (values_of inputs.file) (all_seen inputs.entries cards)
       (drawn task.draws)
 
+  -- the exact risk of each claim, of what is seen of the drawn cards, is within the limit
+  abbrev pub WereWithin : Type 0
+  WereWithin = All
+      (λ value. IsTrue (is_within 1 1 task.gamma task.limit
+      (map (λ card. seen_value value (seen_at (all_seen inputs.entries cards) card))
+      (drawn task.draws))))
+      (values_of inputs.file)
+
 -- the poll of the words
 pub record IsPollOf (words : List (List ℕ)) (files : List File) : Type 0 where
   pub asks : Asks Poll words
@@ -69,11 +79,11 @@ pub record IsPollOf (words : List (List ℕ)) (files : List File) : Type 0 where
   pub say : SayPoll bytes inputs
   -- the claims refute each order that elects another candidate than the file says
   pub cover : Cover (candidate_count inputs.file) inputs.file.winner (claimed inputs.file)
-  -- what is seen of each drawn card is told
+  -- each drawn card has a record of what is seen
   pub all_told :
       unseen_draw asks.task.seed (cards asks.task inputs) inputs.entries asks.task.draws ≡ None
 
--- its counts and risks, as they are told
+-- its counts and risks, as they are printed
 abbrev pub told_of : {words : List (List ℕ)} {files : List File} → IsPollOf words files → List ℕ
 told_of poll =
     poll_text poll.asks.task poll.inputs.batches poll.inputs.file poll.inputs.entries
@@ -82,11 +92,17 @@ abbrev pub is_confirmed_by : {words : List (List ℕ)} {files : List File} →
     IsPollOf words files → Bool
 is_confirmed_by poll = confirms poll.asks.task poll.inputs
 
+abbrev pub WereAllWithin : {words : List (List ℕ)} {files : List File} →
+    IsPollOf words files → Type 0
+WereAllWithin poll = WereWithin poll.asks.task poll.inputs
+
 -- ---- what `run` promises
 
--- Status 0 and 10 of a poll: `out` tells the poll of the words and files. It is 0 exactly where that confirms each claim.
+-- Status 0 and 10 of a poll: `out` tells the poll of the words and files. It is 0 exactly where that confirms each claim. Then the
+-- exact risk of each claim is within the limit.
 abbrev pub IsPolled : Option (List File) → List (List ℕ) → ℕ → Writing → Type 0
 IsPolled held words status out =
     IfSome held (λ files. Asks Poll words → (status ≡ 0) ⊎ (status ≡ 10) →
     (poll : IsPollOf words files) × Took out (told_of poll)
-    × ((status ≡ 0) ↔ IsTrue (is_confirmed_by poll)))
+    × ((status ≡ 0) ↔ IsTrue (is_confirmed_by poll))
+    × (status ≡ 0 → WereAllWithin poll))

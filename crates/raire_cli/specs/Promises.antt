@@ -31,7 +31,7 @@ pub record IsSearchable (words : List (List ℕ)) (files : List File) : Type 0 w
   pub is_short : length asks.bytes ≤ limit
   pub budget : Suffices asks.search.task.budget ballots asks.won.order winner
 
--- Such a search ends with its assertions or with reason for a full count, if memory was found and no count of faults rose.
+-- Such a search ends with its assertions or with a reason for a full count, if memory was found and no count of faults rose.
 abbrev pub IsComplete : Option (List File) → List (List ℕ) → Type 0 → ℕ → Writing → Writing → Type 0
 IsComplete held words failed status out err =
     IfSome held (λ files. IsSearchable words files → IsQuiet failed out err →
@@ -69,7 +69,7 @@ abbrev pub IsTrialComplete : List (List ℕ) → Type 0 → ℕ → Writing → 
 IsTrialComplete words failed status out err =
     IsTriable words → IsQuiet failed out err → (status ≡ 0) ⊎ (status ≡ 3) ⊎ (status ≡ 9)
 
--- Of each command that no budget leaves open, each answer comes exactly where that is what the files make it.
+-- For each command that no budget leaves open, each answer comes exactly if it is what the files make it.
 abbrev pub IsExactUnlessOpen : Option (List File) → List (List ℕ) → ℕ → Type 0
 IsExactUnlessOpen held words status =
     (command : Command) → command_of words ≡ Some command → is_open command ≡ false →

@@ -1,4 +1,4 @@
--- The files of a round of an audit, whatever its session stands on.
+-- The files of a round of an audit, for any kind of session.
 use Rattle.std.specs.Prelude.{◌≡◌, ℕ, List, Option, Some, Ok}
 use Rattle.desk.specs.Desk.{File, held_bytes}
 use Rattle.irv_base.specs.Names.{Id}
@@ -8,13 +8,13 @@ use Rattle.seen_file.specs.Seen.{Entry}
 use Rattle.session_state.specs.Content.{Content}
 use Rattle.session_file.specs.Reading.{session_of}
 
--- the bytes of the session file, of the files that it stands on, and of the seen file
+-- the bytes of the session file, of the files that it is about, and of the seen file
 pub record RoundBytes (Bytes : Type 0) : Type 0 where
   pub session : List ℕ
   pub basis : Bytes
   pub seen : List ℕ
 
--- the session so far, what it stands on, and what is seen of some cards
+-- the session so far, the files that it is about, and what is seen of some cards
 pub record RoundInputs (Basis : Type 0) : Type 0 where
   pub session : Content
   pub basis : Basis

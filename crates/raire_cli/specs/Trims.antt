@@ -8,6 +8,7 @@ use Rattle.assertion_file.specs.Text.{assertion_file_text, told_of}
 use Rattle.cover_checker.specs.Checks.{IsAnswer}
 use Rattle.cover_checker.specs.declared.checked.Checked.TheVariants.{Accepted}
 use Rattle.trimmer.specs.Laws.{IsIrredundant, IsPartOf, IsPlannedAlike}
+use Rattle.trimmer.specs.Trimmed.{margin_left}
 use Rattle.cli_base.specs.Ends.{Writing, Took}
 use Rattle.command_line.specs.declared.commands.Command.TheVariants.{Trim}
 use Rattle.raire_cli.specs.Asks.{Asks}
@@ -25,11 +26,16 @@ pub record IsTrimmedOf (words : List (List ℕ)) (files : List File) (left : Con
   pub was_accepted : IsAnswer asks.task.budget ballots file (Ok Accepted)
   -- and what is left of it
   pub accepted : IsAnswer asks.task.budget ballots left (Ok Accepted)
-  -- its claims are among those that were read, in their order and each with its draws, and all else is the same
+  -- its claims are among those that were read, in their order and each with its draws; the rest of the file is the same, but for the margin
+  -- of a file without an order, which is the smallest of what is left
   pub part : IsPartOf left.claims file.claims
   pub draws : IsPartOf (told_of left.plan left.claims) (told_of file.plan file.claims)
   pub terms : IsPlannedAlike file.plan left.plan
-  pub same : left ≡ record file { claims = left.claims; plan = left.plan }
+  pub same : left ≡ record file {
+    margin = margin_left file left.claims;
+    claims = left.claims;
+    plan = left.plan;
+  }
   -- each of its claims is needed
   pub needed : IsIrredundant left
 

@@ -1,4 +1,4 @@
--- What it means that ways of breaking a contest's ties elect different candidates: what status 3 tells.
+-- What it means that ways of breaking a contest's ties elect different candidates: the meaning of status 3.
 use Rattle.std.specs.Prelude.{◌≡◌, ◌⊎◌, ℕ, List, Option, Some, IfSome, IsTrue}
 use Rattle.desk.specs.Desk.{File}
 use Rattle.ballot_reader.specs.Ballots.{BallotFile}
@@ -6,7 +6,7 @@ use Rattle.cli_base.specs.Ends.{Writing, Took}
 use Rattle.cli_base.specs.Statuses.{IsQuiet}
 use Rattle.command_line.specs.Line.{command_of}
 use Rattle.command_line.specs.declared.commands.Command.{Command}
-use Rattle.command_line.specs.declared.commands.Command.TheVariants.{Search, Tabulate, Trial}
+use Rattle.command_line.specs.declared.commands.Command.TheVariants.{Search, SearchFewest, Tabulate, Trial}
 use Rattle.contest_search.specs.Contest.{IsUndecided}
 use Rattle.search_commands.specs.Ends.{HasTie}
 use Rattle.search_commands.specs.Search.{has_cards}
@@ -20,6 +20,8 @@ use Rattle.raire_cli.specs.PluralityTies.{TellsPluralityTie}
 -- a search, a tabulation or a trial asks who has won this contest; a search that is given a number of cards, if they are enough
 abbrev pub IsAbout : List File → Command → BallotFile → Type 0
 IsAbout files (Search task) ballots =
+    AreBallots files task.ballots task.contest ballots × IsTrue (has_cards task.plan ballots)
+IsAbout files (SearchFewest task) ballots =
     AreBallots files task.ballots task.contest ballots × IsTrue (has_cards task.plan ballots)
 IsAbout files (Tabulate task) ballots = AreBallots files task.ballots task.contest ballots
 IsAbout files (Trial task) ballots = ballots ≡ contest_of task
@@ -49,7 +51,7 @@ IsTied held words status out =
     (text : List ℕ) × (TellsTie words files text ⊎ TellsPluralityTie words files text)
     × Took out text)
 
--- The words ask who has won a contest that isn't decided, and the budget suffices to tell that.
+-- The words ask who has won a contest that isn't decided, and the budget is enough to find that.
 pub record AsksUndecided (words : List (List ℕ)) (files : List File) : Type 0 where
   pub ballots : BallotFile
   pub asks : AsksAbout words files ballots

@@ -1,26 +1,31 @@
 // The top call.
-ghost use Rattle.std.specs.Prelude.{◌≡◌, ◌≤◌};
+ghost use Rattle.std.specs.Prelude.{◌≡◌, ◌<◌};
 ghost use Rattle.std.specs.Io.KnownBytes.{Keeps};
 ghost use Rattle.desk.specs.Count.{Rose};
 ghost use Rattle.cli_base.specs.Accounts.{IsAccountedFor};
 ghost use Rattle.cli_base.specs.Begun.{HasCome};
 ghost use Rattle.cli_base.specs.Due.{due};
+ghost use Rattle.cli_base.specs.Faults.{IsFaultTold};
 ghost use Rattle.cli_base.specs.Ends.{writing};
 ghost use Rattle.cli_base.specs.Script.{ByDesk};
-ghost use Rattle.cli_base.specs.Statuses.{IsAnswered, IsForErr};
+ghost use Rattle.cli_base.specs.Statuses.{IsAnswered, IsForErr, IsUndone};
 ghost use Rattle.cli_base.specs.Story.{Story};
 ghost use Rattle.command_line.specs.Words.{texts};
 ghost use Rattle.raire_cli.specs.Acceptance.{IsUpheld};
 ghost use Rattle.raire_cli.specs.Answers.{asked, file_count, files_known};
 ghost use Rattle.raire_cli.specs.Audits.{IsAudited};
-ghost use Rattle.raire_cli.specs.Confirmation.{IsConfirmed, IsReasoned};
+ghost use Rattle.raire_cli.specs.Confirmation.{IsConfirmed};
 ghost use Rattle.raire_cli.specs.Contests.{IsAuditedByContest};
 ghost use Rattle.raire_cli.specs.Enough.{IsNeverSpent};
+ghost use Rattle.raire_cli.specs.Fewest.{IsFewest, IsFewestComplete, IsReasoned};
 ghost use Rattle.raire_cli.specs.Openings.{IsOpened};
 ghost use Rattle.raire_cli.specs.Pluralities.{IsPluralityAudited, IsPluralityOpened};
 ghost use Rattle.raire_cli.specs.Polls.{IsPolled};
+ghost use Rattle.raire_cli.specs.PollsComplete.{IsPollComplete};
+ghost use Rattle.raire_cli.specs.PollsEach.{IsPolledEach};
 ghost use Rattle.raire_cli.specs.Sets.{IsNeverSpentBySets, IsSpentBySets};
 ghost use Rattle.raire_cli.specs.Trims.{IsTrimmed};
+ghost use Rattle.raire_cli.specs.Adoptions.{AreAdopted, IsAdoptionComplete};
 ghost use Rattle.raire_cli.specs.Promises.{IsComplete, IsTabulationComplete, IsTrialComplete, IsExactUnlessOpen, HasCause};
 ghost use Rattle.raire_cli.specs.Undecided.{IsTied, IsTieComplete};
 
@@ -59,6 +64,10 @@ pub fn run<R: AllocGlobal + Threads + Sync, D: Desk, O: Sink, E: Sink, G: Gate +
     ensures headline { IsConfirmed (D.held desk.old) (texts words.now) result
         (writing O.Sink out.old out.new) }
 
+    // So do assertions of a search for the fewest NENs. No true assertions of at least their smallest margin that do have fewer NENs.
+    ensures fewest { IsFewest (D.held desk.old) (texts words.now) result
+        (writing O.Sink out.old out.new) }
+
     // An order gives reason for a full count.
     ensures full_count { IsReasoned (D.held desk.old) (texts words.now) result
         (writing O.Sink out.old out.new) }
@@ -68,7 +77,12 @@ pub fn run<R: AllocGlobal + Threads + Sync, D: Desk, O: Sink, E: Sink, G: Gate +
         (Rose (D.faults desk.old) (D.faults desk.new)) result
         (writing O.Sink out.old out.new) (writing E.Sink err.old err.new) }
 
-    // Ways of breaking the contest's ties elect different candidates, and its first tie is told; or a plurality contest has a tie.
+    // So does a search for the fewest NENs, if it has the sets that are needed.
+    ensures complete_fewest { IsFewestComplete (D.held desk.old) (texts words.now)
+        (Rose (D.faults desk.old) (D.faults desk.new)) result
+        (writing O.Sink out.old out.new) (writing E.Sink err.old err.new) }
+
+    // Ways of breaking the contest's ties elect different candidates, and its first tie is printed; or a plurality contest has a tie.
     ensures tied { IsTied (files_known (texts words.now) (D.held desk.old))
         (texts words.now) result (writing O.Sink out.old out.new) }
 
@@ -88,15 +102,14 @@ pub fn run<R: AllocGlobal + Threads + Sync, D: Desk, O: Sink, E: Sink, G: Gate +
         (Rose (D.faults desk.old) (D.faults desk.new)) result
         (writing O.Sink out.old out.new) (writing E.Sink err.old err.new) }
 
-    // With enough nodes or sets no check is spent, also where a file is trimmed, where a session is opened or goes on, and before a
-    // poll.
+    // With enough nodes or sets no check is spent, also before a trim, before a session is opened or goes on, and before a poll.
     ensures enough { IsNeverSpent (D.held desk.old) (texts words.now) result }
 
     // With 2^n - 3 sets or more no search and no trial of n candidates is spent, a trial over any desk.
     ensures enough_sets { IsNeverSpentBySets
         (files_known (texts words.now) (D.held desk.old)) (texts words.now) result }
 
-    // A command with a number of sets is spent exactly where more sets count.
+    // A command with a number of sets is spent exactly if more sets count.
     ensures spent_sets { IsSpentBySets
         (files_known (texts words.now) (D.held desk.old)) (texts words.now) result }
 
@@ -108,6 +121,16 @@ pub fn run<R: AllocGlobal + Threads + Sync, D: Desk, O: Sink, E: Sink, G: Gate +
     ensures trimmed { IsTrimmed (D.held desk.old) (texts words.now) result
         (writing O.Sink out.old out.new) }
 
+    // Claims that are adopted are true of the records with the margins that are printed, and refute every order that elects another
+    // candidate than the winner.
+    ensures adopted { AreAdopted (D.held desk.old) (texts words.now) result
+        (writing O.Sink out.old out.new) }
+
+    // Claims that do so are adopted, if the budget is large enough.
+    ensures complete_adoption { IsAdoptionComplete (D.held desk.old) (texts words.now)
+        (Rose (D.faults desk.old) (D.faults desk.new)) result
+        (writing O.Sink out.old out.new) (writing E.Sink err.old err.new) }
+
     // A session that is opened is that of its words and files.
     ensures opened { IsOpened (D.held desk.old) (texts words.now) result
         (writing O.Sink out.old out.new) }
@@ -116,24 +139,36 @@ pub fn run<R: AllocGlobal + Threads + Sync, D: Desk, O: Sink, E: Sink, G: Gate +
     ensures audited { IsAudited (D.held desk.old) (texts words.now) result
         (writing O.Sink out.old out.new) }
 
-    // A poll has the counts and risks of its files, and confirms each claim exactly with status 0.
+    // A poll has the counts and risks of its files, and confirms each claim exactly with status 0. Then each exact risk is within the
+    // limit.
     ensures polled { IsPolled (D.held desk.old) (texts words.now) result
         (writing O.Sink out.old out.new) }
+
+    // A poll with a look after each draw has the counts and risks of its files, each up to the first draw that confirms the claim, and
+    // ends with 0 exactly if a draw confirms each claim.
+    ensures polled_each { IsPolledEach (D.held desk.old) (texts words.now) result
+        (writing O.Sink out.old out.new) }
+
+    // A poll ends with its result, if its files are held and accepted, its assertions are known to prove the winner, and each card that
+    // it needs has a record of what is seen.
+    ensures complete_poll { IsPollComplete (D.held desk.old) (texts words.now)
+        (Rose (D.faults desk.old) (D.faults desk.new)) result
+        (writing O.Sink out.old out.new) (writing E.Sink err.old err.new) }
 
     // The session of an audit of a plurality contest that is opened is that of its words and files.
     ensures opened_plurality { IsPluralityOpened (D.held desk.old) (texts words.now) result
         (writing O.Sink out.old out.new) }
 
-    // Such a session goes on by the round that its files make, and is signed off exactly with status 0.
+    // The session of a plurality contest goes on by the round that its files make, and is signed off exactly with status 0.
     ensures audited_plurality { IsPluralityAudited (D.held desk.old) (texts words.now) result
         (writing O.Sink out.old out.new) }
 
-    // An audit of all contests tells how each of them ends, by its own ballots and what is seen for it, and is done exactly where each
-    // is signed off.
+    // An audit of all contests says how each of them ends, by its own ballots and what is seen for it. It is done exactly if each is
+    // signed off.
     ensures audited_contests { IsAuditedByContest (D.held desk.old) (texts words.now) result
         (writing O.Sink out.old out.new) }
 
-    // The defined status and texts, of the files that are told, or of some that the desk may have given.
+    // The defined status and texts, for the files that the desk reports, or for some that it may have given.
     ensures answer { IsAnswered (asked (texts words.now)) (D.held desk.old)
         (Rose (D.faults desk.old) (D.faults desk.new)) result
         (writing O.Sink out.old out.new) (writing E.Sink err.old err.new) }
@@ -143,31 +178,36 @@ pub fn run<R: AllocGlobal + Threads + Sync, D: Desk, O: Sink, E: Sink, G: Gate +
         (Rose (D.faults desk.old) (D.faults desk.new)) (D.served desk.old) (D.served desk.new) result
         (writing O.Sink out.old out.new) (writing E.Sink err.old err.new) }
 
-    // No budget leaves open what another command than a search, a tabulation, a trial or an audit of all contests comes to, and no number
-    // of sets what any does.
+    // No budget leaves open how a command ends, except for a search, a tabulation, a trial or an audit of all contests; and no number of
+    // sets leaves anything open.
     ensures exact { IsExactUnlessOpen
         (files_known (texts words.now) (D.held desk.old)) (texts words.now) result }
 
     // The desk begins the first files that the command reads, each once, and no others: all that it reads before it answers or a rule
-    // refuses, or up to the one that 7, 11 or 12 names, or some where memory runs out. What they make of it is written.
+    // refuses, or up to the one that 7, 11 or 12 names, or some of them if memory runs out. What they make of it is written.
     ensures begun { Story (asked (texts words.now)) (D.held desk.old)
         (Rose (D.faults desk.old) (D.faults desk.new)) (D.served desk.old) (D.served desk.new) result
         (writing O.Sink out.old out.new) (writing E.Sink err.old err.new) }
 
-    // 11 and 12 come exactly where the desk served so, told or not told what it holds. The files that `begun` speaks of are at most as
-    // many as the words name, and with status 0 as many.
+    // 11 and 12 come exactly if the desk served so, whether or not it reports what it holds. The files that `begun` is about are at most
+    // as many as the words name, and with status 0 as many.
     ensures served { IsAccountedFor (file_count (texts words.now))
         (D.served desk.old) (D.served desk.new) result }
 
+    // If the desk's count of faults rose, the call ends with 7, 8 or 9.
+    ensures read_told { D.faults desk.old < D.faults desk.new → IsUndone result }
+
     // 1, 2, 7, 9, 11 and 12 leave `out` as it was.
     ensures kept { IsForErr result → Keeps (O.taken out.old) (O.taken out.new) }
+
+    // No call changes what the desk holds.
     ensures held { D.held desk.new ≡ D.held desk.old }
 {
     let outcome = answer(rt, words, desk, gate);
     deliver(&outcome, out, err)
 }
 
-// What is due of the words.
+// What the words come to.
 fn answer<R: AllocGlobal + Threads + Sync, D: Desk, G: Gate + Sync>(
     rt: &R,
     words: &[String],
@@ -175,7 +215,7 @@ fn answer<R: AllocGlobal + Threads + Sync, D: Desk, G: Gate + Sync>(
     gate: &G,
 ) -> Result<Answer, Refusal>
     ensures held { D.held desk.new ≡ D.held desk.old }
-    ensures later { D.faults desk.old ≤ D.faults desk.new }
+    ensures faults { IsFaultTold (D.faults desk.old) (D.faults desk.new) (due result).status }
     ensures due { HasCome
         (ByDesk (D.held desk.old) (Rose (D.faults desk.old) (D.faults desk.new)))
         (D.served desk.old) (D.served desk.new) (asked (texts words.now)) (due result) }

@@ -1,4 +1,4 @@
 pub mod Lists
 pub mod Lines
 pub mod Claims
-mod Digits
+pub mod Digits

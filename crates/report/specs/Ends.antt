@@ -27,7 +27,7 @@ spent_lines last order margin =
     codes "spent\ncandidate " ++ last ++ codes "\norder " ++ order ++ codes "\nmargin "
     ++ decimal margin ++ codes "\n"
 
--- a budget of so many sets
+-- a budget of this many sets
 abbrev pub spent_sets : ℕ → List ℕ
 spent_sets sets = codes "spent\nsets " ++ decimal sets ++ codes "\n"
 
@@ -36,7 +36,7 @@ spent_sets_lines sets order margin =
     codes "spent\nsets " ++ decimal sets ++ codes "\norder " ++ order ++ codes "\nmargin "
     ++ decimal margin ++ codes "\n"
 
--- of so many sets, with the order that a search starts with, and its hardness
+-- with this many sets, the order that a search starts with, and its hardness
 abbrev pub spent_sets_text : List Id → ℕ → List ℕ → ℕ → List ℕ
 spent_sets_text ids sets order margin = spent_sets_lines sets (order_text ids order) margin
 

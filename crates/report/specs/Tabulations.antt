@@ -18,7 +18,7 @@ tally_text ids votes c = codes " " ++ id_of ids c ++ codes "=" ++ decimal (slice
 abbrev pub tallies_text : List Id → List ℕ → List ℕ → List ℕ
 tallies_text ids votes remaining = flat_map (tally_text ids votes) remaining
 
--- the line of those who share the least tally, where they are several
+-- the line of those who share the least tally, if they are several
 abbrev pub tied_line : List Id → ℕ → List ℕ
 tied_line ids tied =
     if nat_le 2 (length (members tied)) then codes "tied " ++ set_text ids tied ++ codes "\n" else []

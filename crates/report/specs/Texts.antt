@@ -1,4 +1,4 @@
--- Candidates, orders and assertions, told by the ids of a contest's candidates.
+-- Candidates, orders and assertions, printed by the ids of a contest's candidates.
 use Rattle.std.specs.Prelude.{ℕ, List, [], ◌∷◌, ◌++◌, codes}
 use Rattle.irv_base.specs.Names.{Id, comma}
 use Rattle.assertions.specs.declared.assertion.Assertion.{Assertion}

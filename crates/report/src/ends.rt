@@ -25,7 +25,7 @@ pub fn tie_text(
     Ok(tie_lines(alloc, round, tied.as_str(), votes)?)
 }
 
-// `tied` tells who shares the least tally.
+// `tied` has those who share the least tally.
 fn tie_lines(alloc: Global, round: u32, tied: &str, votes: u32) -> Result<String, AllocError>
     ensures { IfOk result (λ text. string_bytes text ≡ tie_lines round tied.now votes) }
 {
@@ -63,15 +63,15 @@ fn spent_lines(alloc: Global, last: &str, order: &str, margin: u32) -> Result<St
     format!(in alloc; "spent\ncandidate {last}\norder {order}\nmargin {margin}\n")
 }
 
-/// The lines of a budget of so many sets that is spent. Each ends with a line feed.
+/// The lines of a budget of this many sets that is spent. Each ends with a line feed.
 pub fn spent_sets(alloc: Global, sets: u32) -> Result<String, AllocError>
     ensures { IfOk result (λ text. string_bytes text ≡ spent_sets sets) }
 {
     format!(in alloc; "spent\nsets {sets}\n")
 }
 
-/// The lines of a search for which so many sets don't suffice: the order that it starts with, and the hardness of that, in votes. Every
-/// line ends with a line feed.
+/// The lines of a search for which this many sets aren't enough: the order that it starts with, and its hardness, in votes. Every line
+/// ends with a line feed.
 pub fn spent_sets_text(
     alloc: Global,
     names: &[Name],

@@ -1,4 +1,4 @@
-// What is told of an audit: of a claim its risk, its counts and whether it is confirmed, and whether the audit is signed off.
+// What is printed of an audit: for a claim its risk, its counts and whether it is confirmed, and whether the audit is signed off.
 ghost use Rattle.std.specs.Prelude.{◌≡◌, ◌++◌, IfOk, string_bytes};
 ghost use Rattle.report.specs.Risks.{counts_text, risk_text, signed_off_line, state_end, state_text, yes_or_no};
 
@@ -58,7 +58,7 @@ pub fn yes_or_no(yes: bool) -> &'static str
     if yes { "yes" } else { "no" }
 }
 
-/// Adds the line that tells whether an audit is signed off.
+/// Adds the line that says whether an audit is signed off.
 pub fn add_signed_off(text: &mut String, signed_off: bool) -> Result<(), AllocError>
     ensures { IfOk result (λ _.
         string_bytes text.new ≡ string_bytes text.old ++ signed_off_line signed_off) }

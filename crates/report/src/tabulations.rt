@@ -82,7 +82,7 @@ fn tied_text(alloc: Global, tied: &str) -> Result<String, AllocError>
     format!(in alloc; "tied {tied}\n")
 }
 
-// The line of those who share the least tally, where they are several.
+// The line of those who share the least tally, if they are several.
 fn tied_line(alloc: Global, names: &[Name], tied: CandSet) -> Result<String, Memory>
     requires { length names.now ≤ ROOM }
     ensures { IfOk result (λ text. string_bytes text ≡ tied_line names.now tied) }

@@ -1,4 +1,4 @@
-// Candidates, orders and assertions, told by the ids of a contest's candidates.
+// Candidates, orders and assertions, printed by the ids of a contest's candidates.
 ghost use Rattle.std.specs.Prelude.{◌≡◌, ◌<◌, ◌≤◌, ◌++◌, ◌∷◌, [], if◌then◌else◌, length, filter, codes, All, IfOk, IsTrue, string_bytes};
 ghost use Rattle.irv_base.specs.Candidates.{candidates, has};
 ghost use Rattle.irv_base.specs.Names.{comma};

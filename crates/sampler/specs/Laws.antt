@@ -7,7 +7,7 @@ use Rattle.sampler.specs.Draws.{draw_text}
 abbrev pub LimitsLaw : Type 0
 LimitsLaw = MOST_SEED_BYTES ≡ 64
 
--- what is hashed tells the seed and the number of the draw, though a seed may have commas too
+-- what is hashed determines the seed and the number of the draw, though a seed may have commas too
 abbrev pub TextTellsDraw : Type 0
 TextTellsDraw =
     (seed other : List ℕ) (k k' : ℕ) → k < 2 ^ 64 → k' < 2 ^ 64 →

@@ -19,8 +19,7 @@ fn remainder(bytes: &[u8], cards: u32) -> u32
     remainder as u32
 }
 
-/// The card that a digest names, from 1: its 32 bytes as one number, most significant first, modulo the number
-/// of cards, plus 1.
+/// The card that a digest names, from 1: its 32 bytes as one number, most significant first, modulo the number of cards, plus 1.
 pub fn reduce(digest: &[u8; 32], cards: u32) -> u32
     requires { 1 ≤ cards }
     ensures card { result ≡ card_of digest.now cards }

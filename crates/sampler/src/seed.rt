@@ -10,7 +10,7 @@ use std::marker::Model;
 /// Why a text is no seed.
 #[derive(Clone, Copy, Debug, PartialEq, Eq)]
 pub enum BadSeed {
-    /// It has so many bytes.
+    /// It has this many bytes.
     Length(u64),
     /// The byte at this place, from 0, is the first that no seed may have.
     Byte(u64),
@@ -85,7 +85,7 @@ fn first_bad_byte(bytes: &[u8]) -> Option<usize>
 }
 
 impl Seed {
-    /// The seed with the bytes of this text, or why it is none: its length first, and else its first bad byte.
+    /// The seed with the bytes of this text, or why it is none: its length first, then its first bad byte.
     pub fn read(text: &str) -> Result<Seed, BadSeed>
         ensures valid { is_ok result ≡ is_seed text.now }
         ensures seed { IfOk result (λ seed. seed ≡ text.now) }

@@ -1,5 +1,5 @@
 -- A command on a contest goes on with its ballots, or they are refused.
-use Rattle.std.proofs.Common.{◌≡◌, inl, ℕ, List, Option, Result, Ok, Err, sym, ap, subst, ◌∙◌}
+use Rattle.std.proofs.Common.{◌≡◌, inl, ℕ, List, Option, Result, Ok, Err, refl, sym, ap, subst, ◌∙◌}
 use Rattle.desk.specs.Count.{Rose, one_more}
 use Rattle.desk.specs.Desk.{File}
 use Rattle.desk.specs.declared.served.Served.{Served}
@@ -8,8 +8,8 @@ use Rattle.cli_base.proofs.Begun.{EndsNow}
 use Rattle.irv_base.specs.Names.{Id}
 use Rattle.ballot_reader.specs.Ballots.{BallotFile}
 use Rattle.cli_base.specs.Outcome.{Outcome, Verdict, outcome}
-use Rattle.cli_base.specs.Script.{Script, Read, Runs, Bytes, Agree, ByDesk, SameButBudget}
-use Rattle.input_files.specs.Judged.{go_on}
+use Rattle.cli_base.specs.Script.{Script, Read, Runs, Bytes, Agree, ByDesk, SameButBudget, SameStatus}
+use Rattle.input_files.specs.Judged.{go_on, told}
 use Rattle.input_files.specs.Votes.{ballots_said}
 use Rattle.input_files.proofs.Going.{read_last}
 
@@ -17,6 +17,12 @@ pub go_on-agrees : {A : Type 0} (judged : Result A Verdict) (next : A → Script
     Agree SameButBudget (go_on judged next)
 go_on-agrees (Ok value) next each = each value
 go_on-agrees (Err verdict) next each = λ v w p q. inl (ap outcome (p ∙ sym q))
+
+-- what is read goes on to one status
+pub go_on-agrees_of : {A Why : Type 0} (words : Why → Verdict) (read : Result A Why) (next : A → Script) →
+    ((value : A) → read ≡ Ok value → Agree SameStatus (next value)) → Agree SameStatus (go_on (told words read) next)
+go_on-agrees_of words (Ok value) next each = each value refl
+go_on-agrees_of words (Err why) next each = λ v w p q. ap (λ v. (outcome v).status) (p ∙ sym q)
 
 -- the ballots of the contest are read and nothing else, by another name for the same contest
 pub ballots_read : {x y : Served} (held : Option (List File)) (a b : ℕ) (file bytes : List ℕ) (contest asked : Option Id) (ballots : BallotFile)

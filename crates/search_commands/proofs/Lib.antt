@@ -9,3 +9,5 @@ mod TrialCandidates
 pub mod Tried
 mod TrialLaws
 pub mod OfVotes
+pub mod Fewest
+mod FewestOfVotes

@@ -13,7 +13,7 @@ use Rattle.search_commands.specs.Search.{Finds, HasCertificate, HasFullCount, Se
 use Rattle.search_commands.specs.Tabulate.{HasStopped, IsStopped, Tabulates}
 
 module _ (ballots : BallotFile) where
-  tied : (text : List ℕ) → HasTie (votes_of ballots) text → HasTie ballots text
+  pub tied : (text : List ℕ) → HasTie (votes_of ballots) text → HasTie ballots text
   tied text has =
       record { round = has.round; tied = has.tied; votes = has.votes; is = tie_there ballots has.round has.tied has.votes has.is; shown = has.shown }
 
@@ -53,7 +53,7 @@ module _ (ballots : BallotFile) where
       } in
       inr (inr (inr (text, full_count, is)))
 
-  cards_there : (plan : Option PlanTerms) → has_cards plan (votes_of ballots) ≡ has_cards plan ballots
+  pub cards_there : (plan : Option PlanTerms) → has_cards plan (votes_of ballots) ≡ has_cards plan ballots
   cards_there None = refl
   cards_there (Some terms) = refl
 

@@ -1,4 +1,4 @@
--- How a command on a contest ends without a certificate: with the first tie, or where its budget is spent.
+-- How a command on a contest ends without a certificate: with the first tie, or with a budget that is spent.
 use Rattle.std.specs.Prelude.{◌≡◌, ℕ, List}
 use Rattle.budget.specs.declared.budget.Budget.{Budget}
 use Rattle.budget.specs.declared.budget.Budget.TheVariants.{Nodes, Sets}
@@ -14,7 +14,7 @@ pub record HasTie (ballots : BallotFile) (text : List ℕ) : Type 0 where
   pub is : IsTie ballots round tied votes
   pub shown : text ≡ tie_text ballots.candidates round tied votes
 
--- a search tells a tie, and the budget suffices to tell that the contest isn't decided
+-- a search prints a tie, and the budget is enough to find that the contest isn't decided
 abbrev pub HasTieIn : Budget → BallotFile → List ℕ → Type 0
 HasTieIn budget ballots text = HasTie ballots text × IsTold budget ballots
 

@@ -20,7 +20,7 @@ use Rattle.search_commands.specs.Trial.{contest_of, HasLines, Tries}
 
 -- ---- the ends of a search and of a tabulation
 
--- A contest that isn't decided has a first tie to tell.
+-- A contest that isn't decided has a first tie.
 abbrev pub UndecidedHasTie : Type 0
 UndecidedHasTie =
     (ballots : BallotFile) → FEWEST_CANDIDATES ≤ candidate_count ballots → IsUndecided ballots →
@@ -33,7 +33,7 @@ EndExists =
     FEWEST_CANDIDATES ≤ candidate_count ballots →
     (verdict : Verdict) × Finds budget least plan ballots verdict
 
--- Where the budget suffices for the certificate, it has one at which it isn't spent.
+-- If the budget is enough for the certificate, it has one at which it isn't spent.
 abbrev pub UnspentEndExists : Type 0
 UnspentEndExists =
     (budget : Budget) (least : ℕ) (plan : Option PlanTerms) (ballots : BallotFile) (winner : ℕ) →
@@ -42,7 +42,7 @@ UnspentEndExists =
     (verdict : Verdict) × Finds budget least plan ballots verdict
     × (One (HasSpent budget ballots) Spent verdict → ⊥)
 
--- A search that isn't spent ends with a tie exactly where its contest isn't decided.
+-- A search that isn't spent ends with a tie exactly if its contest isn't decided.
 abbrev pub TieIffUndecided : Type 0
 TieIffUndecided =
     (budget : Budget) (least : ℕ) (plan : Option PlanTerms) (ballots : BallotFile) (verdict : Verdict) →
@@ -57,7 +57,7 @@ TabulationExists =
     (verdict : Verdict) × Tabulates nodes ballots verdict
     × (One (HasStopped nodes ballots) Spent verdict → ⊥)
 
--- It then names no winner exactly where its contest isn't decided.
+-- It then names no winner exactly if its contest isn't decided.
 abbrev pub NoWinnerIffUndecided : Type 0
 NoWinnerIffUndecided =
     (nodes : ℕ) (ballots : BallotFile) (verdict : Verdict) → Tabulates nodes ballots verdict →
@@ -66,7 +66,7 @@ NoWinnerIffUndecided =
 
 -- ---- what it takes
 
--- Where the certificate of a decided contest needs more nodes for a candidate, a search is spent.
+-- If the certificate of a decided contest needs more nodes for a candidate, a search is spent.
 abbrev pub SpentWhereAbove : Type 0
 SpentWhereAbove =
     (nodes least : ℕ) (plan : Option PlanTerms) (ballots : BallotFile) (winner c : ℕ)
@@ -75,7 +75,7 @@ SpentWhereAbove =
     nodes < certificate_nodes ballots winner c → Finds (Nodes nodes) least plan ballots verdict →
     One (HasSpent (Nodes nodes) ballots) Spent verdict
 
--- By sets it is spent exactly where it needs more of them, and the order that it starts with isn't of hardness 0.
+-- By sets it is spent exactly if it needs more of them, and the order that it starts with isn't of hardness 0.
 abbrev pub SpentBySetsExactly : Type 0
 SpentBySetsExactly =
     (sets least : ℕ) (plan : Option PlanTerms) (ballots : BallotFile) (winner : ℕ)
@@ -90,7 +90,7 @@ SpentBySetsExactly =
 abbrev pub IsAmongKinds : (Verdict → Type 0) → AnswerKind → Type 0
 IsAmongKinds verdicts kind = (text : List ℕ) × verdicts (Answered kind text)
 
--- A trial may have an answer of a kind exactly where a search of its contest at floor 1 may: no margin is below that floor.
+-- A trial may have an answer of a kind exactly if a search of its contest at floor 1 may: no margin is below that floor.
 abbrev pub TrialIsASearch : Type 0
 TrialIsASearch =
     (task : TrialTask) (kind : AnswerKind) → FEWEST_CANDIDATES ≤ task.candidates →

@@ -1,5 +1,5 @@
 -- `search FILE`: the assertions that together confirm the winner of a ballot file's contest, or why there are none.
-use Rattle.std.specs.Prelude.{◌≡◌, ◌⊎◌, ◌≤◌, ◌<◌, ℕ, Bool, true, nat_le, List, [], ◌∷◌, ◌++◌, length, Option, None, Some, option_map, MatchBool, codes}
+use Rattle.std.specs.Prelude.{◌≡◌, ◌⊎◌, ◌≤◌, ◌<◌, ℕ, Bool, true, nat_le, List, [], ◌∷◌, ◌++◌, length, Option, None, Some, option_map, unwrap_or, MatchBool, codes}
 use Rattle.std.specs.Fmt.{decimal}
 use Rattle.budget.specs.declared.budget.Budget.{Budget}
 use Rattle.ballot_reader.specs.Ballots.{BallotFile}
@@ -22,6 +22,10 @@ use Rattle.search_commands.specs.Ends.{HasTieIn, HasSpent}
 
 -- ---- the text of a full count
 
+-- the order of a certificate, which has one
+abbrev pub certificate_order_text : Content → List ℕ
+certificate_order_text file = order_text file.candidates (unwrap_or file.order [])
+
 abbrev pub full_count_lines : List ℕ → ℕ → ℕ → List ℕ
 full_count_lines order margin floor =
     codes "full count\norder " ++ order ++ codes "\nmargin " ++ decimal margin ++ codes "\nfloor "
@@ -29,7 +33,7 @@ full_count_lines order margin floor =
 
 abbrev pub full_count_text : Content → ℕ → List ℕ
 full_count_text file floor =
-    full_count_lines (order_text file.candidates file.order) file.margin floor
+    full_count_lines (certificate_order_text file) file.margin floor
 
 -- ---- the draws of a clean audit
 
@@ -37,11 +41,11 @@ full_count_text file floor =
 abbrev pub plan_by : Content → PlanTerms → Plan
 plan_by file terms = plan_of terms.cards terms.gamma terms.limit file
 
--- a certificate as it is printed: with them, where there are terms for them
+-- a certificate as it is printed: with draws, if there are terms for them
 abbrev pub printed : Option PlanTerms → Content → Content
 printed plan file = record file { plan = option_map (plan_by file) plan }
 
--- there are at least as many cards as ballots, where a number of cards is given
+-- there are at least as many cards as ballots, if a number of cards is given
 abbrev pub has_cards : Option PlanTerms → BallotFile → Bool
 has_cards None ballots = true
 has_cards (Some terms) ballots = nat_le (length ballots.rankings) terms.cards
@@ -52,7 +56,7 @@ more_ballots name = Refused name (broken_at (codes "B11") 0)
 
 -- ---- how a search ends, with such a budget, where a margin below `least` calls for a full count
 
--- with the certificate where its margin reaches that, as it is printed with such a plan
+-- with the certificate if its margin reaches that, as it is printed with such a plan
 pub record HasCertificate (budget : Budget) (least : ℕ) (plan : Option PlanTerms) (ballots : BallotFile)
     (text : List ℕ) : Type 0 where
   pub file : Content
@@ -61,7 +65,7 @@ pub record HasCertificate (budget : Budget) (least : ℕ) (plan : Option PlanTer
   pub floor : least ≤ file.margin
   pub shown : text ≡ assertion_file_text (printed plan file)
 
--- and with the certificate's order alone where it doesn't
+-- and with only the certificate's order if it doesn't
 pub record HasFullCount (budget : Budget) (least : ℕ) (ballots : BallotFile) (text : List ℕ) : Type 0 where
   pub file : Content
   pub is : IsCertificateOfDecided ballots file
@@ -77,7 +81,7 @@ Finds budget least plan ballots verdict =
 
 -- ---- the command
 
--- the contest is searched where each of its ballots has a card; else the ballots are refused
+-- the contest is searched if each of its ballots has a card; otherwise the ballots are refused
 abbrev pub Searches : SearchTask → BallotFile → Verdict → Type 0
 Searches task ballots verdict =
     MatchBool (has_cards task.plan ballots)

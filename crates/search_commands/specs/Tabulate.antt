@@ -1,4 +1,4 @@
--- `tabulate FILE`: the rounds of a ballot file's contest, or its first tie where that leaves open who has won.
+-- `tabulate FILE`: the rounds of a ballot file's contest, or its first tie if that leaves open who has won.
 use Rattle.std.specs.Prelude.{◌≡◌, ◌⊎◌, ◌≤◌, ℕ, List, [], ◌∷◌}
 use Rattle.irv_base.specs.Tabulation.{HasNoTie}
 use Rattle.assertions.specs.Hardness.{first_bound}
@@ -26,7 +26,7 @@ pub record HasRounds (ballots : BallotFile) (text : List ℕ) : Type 0 where
   pub decided : IsElected ballots winner
   pub shown : text ≡ tabulation_text ballots won.order winner
 
--- there is a tie, and the race that is to tell whether it matters is spent at this candidate, with an order as a search tells it
+-- there is a tie, and the race that is to find whether it matters is spent at this candidate, with an order as a search prints it
 pub record IsStopped (nodes : ℕ) (ballots : BallotFile) (last : ℕ) (order : List ℕ)
     (margin : ℕ) : Type 0 where
   pub winner : ℕ

@@ -7,7 +7,6 @@ use Rattle.trial.specs.Records.{trial_records}
 use Rattle.ballot_reader.specs.Ballots.{BallotFile, votes_with}
 use Rattle.assertion_file.specs.Content.{Content}
 use Rattle.assertion_file.specs.Ids.{id_of}
-use Rattle.report.specs.Texts.{order_text}
 use Rattle.cli_base.specs.Outcome.{Verdict, One}
 use Rattle.cli_base.specs.declared.outcome.AnswerKind.{AnswerKind}
 use Rattle.cli_base.specs.declared.outcome.AnswerKind.TheVariants.{Done, Tie, Spent}
@@ -15,6 +14,7 @@ use Rattle.cli_base.specs.Script.{Script, Ends}
 use Rattle.command.specs.declared.trial.TrialTask.{TrialTask}
 use Rattle.contest_search.specs.Found.{IsFoundIn}
 use Rattle.search_commands.specs.Ends.{HasTieIn, HasSpent}
+use Rattle.search_commands.specs.Search.{certificate_order_text}
 
 -- ---- its contest
 
@@ -45,7 +45,7 @@ abbrev pub trial_text : ℕ → Content → List ℕ
 trial_text number file =
     records_lines number (length file.candidates) file.records
     ++ found_lines (id_of file.candidates file.winner) file.margin (length file.claims)
-    (order_text file.candidates file.order)
+    (certificate_order_text file)
 
 -- ---- how a trial ends
 

@@ -12,7 +12,7 @@ use irv_base::{CandSet, Candidate, Name, Order};
 use report::{spent_sets_text, spent_text, tie_text};
 use std::alloc::Global;
 
-/// The answer of a contest that isn't decided, which tells the round of its first tie, those who share the least tally, and that tally.
+/// The answer for a contest that isn't decided: the round of its first tie, those who share the least tally, and that tally.
 pub(crate) fn first_tie(
     alloc: Global,
     names: &[Name],
@@ -31,8 +31,8 @@ pub(crate) fn first_tie(
     })
 }
 
-/// The answer where the budget of nodes is spent at this candidate, which tells an order that elects another candidate than the winner, no
-/// harder than the one that a search starts with, and its hardness.
+/// The answer if the budget of nodes is spent at this candidate: an order that elects another candidate than the winner, no harder than
+/// the one that a search starts with, and its hardness.
 pub(crate) fn spent(
     alloc: Global,
     names: &[Name],
@@ -52,8 +52,7 @@ pub(crate) fn spent(
     })
 }
 
-/// The answer where more sets are needed than the budget has, which are so many: it tells the order that a search starts with, and its
-/// hardness.
+/// The answer if more sets are needed than the budget has, which is this many: the order that a search starts with, and its hardness.
 pub(crate) fn spent_sets(
     alloc: Global,
     names: &[Name],

@@ -2,7 +2,7 @@
 ghost use Rattle.search_commands.specs.Laws.{UndecidedHasTie, EndExists, UnspentEndExists, TieIffUndecided, TabulationExists, NoWinnerIffUndecided};
 ghost use Rattle.search_commands.specs.Laws.{SpentWhereAbove, SpentBySetsExactly, TrialIsASearch, TrialIsComplete};
 
-/// A contest that isn't decided has a first tie to tell.
+/// A contest that isn't decided has a first tie.
 pub fn undecided_has_tie()
     ensures { UndecidedHasTie }
 {}
@@ -12,12 +12,12 @@ pub fn end_exists()
     ensures { EndExists }
 {}
 
-/// Where the budget suffices for the certificate, it has one at which it isn't spent.
+/// If the budget is enough for the certificate, it has one at which it isn't spent.
 pub fn unspent_end_exists()
     ensures { UnspentEndExists }
 {}
 
-/// A search that isn't spent ends with a tie exactly where its contest isn't decided.
+/// A search that isn't spent ends with a tie exactly if its contest isn't decided.
 pub fn tie_iff_undecided()
     ensures { TieIffUndecided }
 {}
@@ -27,7 +27,7 @@ pub fn tabulation_exists()
     ensures { TabulationExists }
 {}
 
-/// It then names no winner exactly where its contest isn't decided.
+/// It then names no winner exactly if its contest isn't decided.
 pub fn no_winner_iff_undecided()
     ensures { NoWinnerIffUndecided }
 {}
@@ -37,7 +37,7 @@ pub fn spent_where_above()
     ensures { SpentWhereAbove }
 {}
 
-/// By sets it is spent exactly where it needs more of them, and the order that it starts with isn't of hardness 0.
+/// By sets it is spent exactly if it needs more of them, and the order that it starts with isn't of hardness 0.
 pub fn spent_by_sets_exactly()
     ensures { SpentBySetsExactly }
 {}

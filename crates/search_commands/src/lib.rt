@@ -5,6 +5,7 @@
 mod answers;
 pub mod laws;
 pub mod search;
+pub mod search_fewest;
 mod search_texts;
 pub mod tabulate;
 mod trial_texts;

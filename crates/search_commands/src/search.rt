@@ -4,6 +4,7 @@ ghost use Rattle.desk.specs.Count.{Rose};
 ghost use Rattle.cli_base.specs.Accounts.{IsAccountedFor};
 ghost use Rattle.cli_base.specs.Begun.{HasCome};
 ghost use Rattle.cli_base.specs.Due.{due, IsOneOrMemory};
+ghost use Rattle.cli_base.specs.Faults.{IsFaultTold};
 ghost use Rattle.cli_base.specs.Script.{ByDesk, Runs};
 ghost use Rattle.command.specs.PlanTerms.{AreWithinLimits};
 ghost use Rattle.command.specs.Search.{IsWithinLimits};
@@ -32,7 +33,7 @@ pub fn answer<R: AllocGlobal + Threads + Sync, D: Desk, G: Gate + Sync>(
 ) -> Result<Answer, Refusal>
     requires { IsWithinLimits task.now }
     ensures held { D.held desk.new ≡ D.held desk.old }
-    ensures later { D.faults desk.old ≤ D.faults desk.new }
+    ensures faults { IsFaultTold (D.faults desk.old) (D.faults desk.new) (due result).status }
     ensures due { HasCome
         (ByDesk (D.held desk.old) (Rose (D.faults desk.old) (D.faults desk.new)))
         (D.served desk.old) (D.served desk.new)
@@ -60,8 +61,8 @@ fn after_votes<R: AllocGlobal + Threads + Sync, G: Gate + Sync>(
     search(rt, votes, task, gate)
 }
 
-// Whether there are at least as many cards as ballots, where a number of cards is given.
-fn has_cards(plan: Option<PlanTerms>, votes: &Votes) -> bool
+/// Whether there are at least as many cards as ballots, if a number of cards is given.
+pub(crate) fn has_cards(plan: Option<PlanTerms>, votes: &Votes) -> bool
     ensures { result ≡ has_cards plan votes.now }
 {
     match plan {
@@ -105,7 +106,7 @@ fn search<R: AllocGlobal + Threads + Sync, G: Gate + Sync>(
     }
 }
 
-// The certificate as it is printed, or its order as reason for a full count, where its margin is below the floor.
+// The certificate as it is printed, or its order as the reason for a full count, if its margin is below the floor.
 fn certificate(
     alloc: Global,
     votes: &Votes,
@@ -131,8 +132,8 @@ fn certificate(
     })
 }
 
-// The file as it is printed: with the draws of a clean audit, where there are terms for them.
-fn printed(
+/// The file as it is printed: with the draws of a clean audit, if there are terms for them.
+pub(crate) fn printed(
     alloc: Global,
     file: AssertionFile,
     plan: Option<PlanTerms>,

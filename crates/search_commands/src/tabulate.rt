@@ -1,4 +1,4 @@
-// `tabulate FILE`: the rounds of a ballot file's contest, or its first tie where that leaves open who has won.
+// `tabulate FILE`: the rounds of a ballot file's contest, or its first tie if that leaves open who has won.
 ghost use Rattle.std.specs.Prelude.{◌≡◌, ◌≤◌};
 ghost use Rattle.irv_tabulator.specs.Results.{IsTabulation, IsTieOf};
 ghost use Rattle.contest_search.specs.Contest.{candidate_count, IsElected, IsTie};
@@ -10,6 +10,7 @@ ghost use Rattle.command.specs.Tabulate.{IsWithinLimits};
 ghost use Rattle.search_commands.specs.Tabulate.{Tabulates, IsStopped, script};
 ghost use Rattle.cli_base.specs.Begun.{HasCome};
 ghost use Rattle.cli_base.specs.Due.{due, IsOneOrMemory};
+ghost use Rattle.cli_base.specs.Faults.{IsFaultTold};
 
 use crate::answers::{first_tie, spent};
 use ballot_reader::Votes;
@@ -25,11 +26,11 @@ use set_tallies::Counted;
 use std::alloc::Global;
 use std::thread::Threads;
 
-// Ballots are counted, where they weren't as they were read, and a tie is raced for, by this many.
+// Ballots are counted, if they weren't as they were read, and a tie is raced for, by this many.
 const WORKERS: u32 = 1;
 
-/// The rounds of the contest, or its first tie where the contest isn't decided. With a tie a race by one worker tells which; the task
-/// has what it may spend on each of its pieces.
+/// The rounds of the contest, or its first tie if the contest isn't decided. If there is a tie, a race by one worker finds which; the
+/// task has what it may spend on each of its pieces.
 pub fn answer<R: AllocGlobal + Threads + Sync, D: Desk, G: Gate + Sync>(
     rt: &R,
     desk: &mut D,
@@ -38,7 +39,7 @@ pub fn answer<R: AllocGlobal + Threads + Sync, D: Desk, G: Gate + Sync>(
 ) -> Result<Answer, Refusal>
     requires { IsWithinLimits task.now }
     ensures held { D.held desk.new ≡ D.held desk.old }
-    ensures later { D.faults desk.old ≤ D.faults desk.new }
+    ensures faults { IsFaultTold (D.faults desk.old) (D.faults desk.new) (due result).status }
     ensures due { HasCome
         (ByDesk (D.held desk.old) (Rose (D.faults desk.old) (D.faults desk.new)))
         (D.served desk.old) (D.served desk.new)
@@ -86,7 +87,7 @@ fn told<R: AllocGlobal + Threads + Sync, G: Gate + Sync>(
     }
 }
 
-// The answer where the contest has a tie.
+// The answer if the contest has a tie.
 fn decide<R: AllocGlobal + Threads + Sync, G: Gate + Sync>(
     rt: &R,
     votes: &Votes,
@@ -136,7 +137,7 @@ fn rounds(
     })
 }
 
-// The first tie of a contest that isn't decided, told by the ids of its candidates.
+// The first tie of a contest that isn't decided, printed by the ids of its candidates.
 fn tied_answer(alloc: Global, votes: &Votes, tie: &FirstTie, nodes: u32) -> Result<Answer, Refusal>
     requires { IsTie votes.now tie.now.round tie.now.tied tie.now.tally }
     ensures { IsOneOrMemory (Tabulates nodes votes.now) (due result) }
@@ -144,7 +145,7 @@ fn tied_answer(alloc: Global, votes: &Votes, tie: &FirstTie, nodes: u32) -> Resu
     first_tie(alloc, votes.candidates(), tie.round, tie.tied, tie.tally)
 }
 
-// The answer where the race is spent at this candidate.
+// The answer if the race is spent at this candidate.
 fn stopped_answer(
     alloc: Global,
     votes: &Votes,

@@ -4,9 +4,9 @@ ghost use Rattle.std.specs.Fmt.{decimal};
 ghost use Rattle.irv_base.specs.declared.limits.TheConstants.{MOST_CANDIDATES};
 ghost use Rattle.search_commands.specs.Trial.{found_lines, trial_candidates, records_lines, trial_text};
 
+use crate::search_texts::certificate_order_text;
 use assertion_file::{AssertionFile, id_of};
 use irv_base::{Memory, Name};
-use report::order_text;
 use std::alloc::{AllocError, Global};
 
 /// The id of the contest.
@@ -47,7 +47,7 @@ pub(crate) fn lines(alloc: Global, number: u32, file: &AssertionFile) -> Result<
     ensures { IfOk result (λ text. text.items ≡ trial_text number file.now) }
 {
     let names = file.candidates();
-    let order = order_text(alloc, names, file.order())?;
+    let order = certificate_order_text(alloc, file)?;
     let winner = id_of(names, file.winner());
     let mut text = records_lines(alloc, number, names.len(), file.records())?;
     let found = found_lines(

@@ -17,7 +17,7 @@ use std::alloc::Global;
 use std::thread::Threads;
 use trial::trial_records;
 
-/// The lines of the trial, or its first tie, or where its budget is spent.
+/// The lines of the trial, or its first tie, or that its budget is spent.
 pub fn answer<R: AllocGlobal + Threads + Sync, G: Gate + Sync>(
     rt: &R,
     task: &TrialTask,
@@ -34,7 +34,7 @@ pub fn answer<R: AllocGlobal + Threads + Sync, G: Gate + Sync>(
     found_answer(alloc, votes.candidates(), task, found)
 }
 
-// What is told of what the search found.
+// The answer for what the search found.
 fn found_answer(
     alloc: Global,
     names: &[Name],

@@ -18,12 +18,12 @@ use Rattle.seen_file.specs.declared.fault.VRule.TheVariants.{V1, V2, V3, V5}
 abbrev pub is_missing : Id → Bool
 is_missing word = is_same word (codes "missing")
 
--- the word, and that nothing but blank fields is behind `missing`
+-- the word, and that only blank fields come after `missing`
 abbrev pub is_told : Id → Fields → Bool
 is_told word rest =
     is_same word (codes "ballot") || (is_missing word && not (list_any is_marked rest))
 
--- what it tells of the card, where each preference is one of the candidates
+-- what it says of the card, if each preference is one of the candidates
 abbrev pub seen_of_record : List Id → Id → Fields → Option Seen
 seen_of_record candidates word rest =
     if is_missing word then Some Missing else option_map Found (ranking_of candidates rest)
@@ -41,7 +41,7 @@ abbrev pub card_of : Batches → Id → Id → Fields → Result ℕ VRule
 card_of batches id word rest =
     if is_told word rest then placed (place_of (cards_of batches) id) else Err V1
 
--- what it tells of that card, after these entries
+-- what it says of that card, after these entries
 abbrev pub entry_of_card : List Id → List Entry → Id → Fields → ℕ → Result Entry VRule
 entry_of_card candidates earlier word rest card =
     if is_some (seen_in earlier card) then Err V3

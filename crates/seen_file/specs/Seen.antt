@@ -17,7 +17,7 @@ abbrev pub seen_at : List Entry → ℕ → Option Seen
 seen_at entries place =
     if place == 0 then None else option_map (λ entry. entry.1) (slice_get entries (place - 1))
 
--- at the number of each card stands that of its entry, or 0
+-- at the number of each card is that of its entry, or 0
 abbrev pub ArePlaces : List Entry → List ℕ → Type 0
 ArePlaces entries places =
     (card : ℕ) → (seen_at entries (slice_index_or places card 0) ≡ seen_in entries card) ×

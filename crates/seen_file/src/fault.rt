@@ -6,15 +6,15 @@ use file_fault::{Fault, Rule};
 /// The rules of a seen file, as the text of a refusal names them.
 #[derive(Clone, Copy, Debug, PartialEq, Eq)]
 pub enum VRule {
-    /// A record has a card's id and the word `ballot`, or `missing` with nothing behind it.
+    /// A record has a card's id and the word `ballot`, or `missing` with nothing after it.
     V1,
     /// The card is in the manifest.
     V2,
-    /// No card stands twice.
+    /// No card is repeated.
     V3,
     /// Each preference is a candidate.
     V5,
-    /// The contest is in the ballot file, where the records are of several contests.
+    /// The contest is in the ballot file, if the records are of several contests.
     V6,
 }
 

@@ -30,7 +30,7 @@ impl Model for SeenCards {
     ghost invariant = { λ s. ArePlaces s.entries.items s.places.items };
 }
 
-// Makes so many places that the card has one. The new ones are free.
+// Makes enough places that the card has one. The new ones are free.
 fn reach(places: &mut Vec<u32>, card: u32) -> Result<(), Memory>
     ensures within { OnOk result (card < length places.new.items) }
     ensures same { (other : ℕ)
@@ -54,8 +54,8 @@ impl SeenCards {
         }
     }
 
-    /// Puts a card with what is seen of it, unless the card is there; tells whether it was new. As many cards as `u32::MAX` are want of
-    /// memory.
+    /// Puts a card with what is seen of it, unless the card is there; answers whether it was new. For as many cards as
+    /// `u32::MAX` the answer is `Memory`.
     pub fn put(&mut self, card: u32, seen: Seen) -> Result<bool, Memory>
         ensures told { IfOk result (λ new. new ≡ not (is_some (seen_in self.old card))) }
         ensures put { IfOk result

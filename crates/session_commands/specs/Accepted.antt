@@ -29,7 +29,7 @@ abbrev pub on_if : Bool → Script → Script → Script
 on_if true next other = next
 on_if false next other = other
 
--- a script goes on where a check accepts the file, and ends as the check does where it doesn't
+-- a script goes on if a check accepts the file, and ends as the check does otherwise
 abbrev pub if_accepted : Budget → BallotFile → Content → Script → Script
 if_accepted budget ballots file next =
     on_if (is_accepted budget ballots file) next (Ends (Checks budget ballots file))

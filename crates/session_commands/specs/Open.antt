@@ -37,7 +37,7 @@ opened task batches file digests =
     Answered Done (session_text (begun file.contest (length (cards_of batches)) file task.seed
     task.limit task.gamma digests))
 
--- the session is opened where a check accepts the file; else the call ends as the check does
+-- the session is opened if a check accepts the file; otherwise the call ends as the check does
 abbrev pub Opens : OpenTask → BallotFile → Batches → FileContent → Digests → Verdict → Type 0
 Opens task ballots batches file digests verdict =
     MatchBool (is_accepted task.budget ballots file) (verdict ≡ opened task batches file digests)

@@ -6,6 +6,7 @@ ghost use Rattle.manifest.specs.Linked.{linked_of};
 ghost use Rattle.cli_base.specs.Accounts.{IsAccountedFor};
 ghost use Rattle.cli_base.specs.Begun.{HasCome};
 ghost use Rattle.cli_base.specs.Due.{due};
+ghost use Rattle.cli_base.specs.Faults.{IsFaultTold};
 ghost use Rattle.cli_base.specs.Script.{ByDesk, Runs};
 ghost use Rattle.session_commands.specs.Audit.{after_ballots, after_check, after_manifest, after_session, script};
 ghost use Rattle.session_rounds.specs.Rounds.{MayGoOn};
@@ -25,7 +26,7 @@ use session_state::{Session, has_facts};
 use std::alloc::Global;
 use std::thread::Threads;
 
-/// The session with one round more, up to so many draws in all, where a check of the assertions within a budget accepts them.
+/// The session with one more round, up to this number of draws in all, if a check of the assertions within a budget accepts them.
 pub fn answer<R: AllocGlobal + Threads + Sync, D: Desk>(
     rt: &R,
     desk: &mut D,
@@ -33,7 +34,7 @@ pub fn answer<R: AllocGlobal + Threads + Sync, D: Desk>(
 ) -> Result<Answer, Refusal>
     requires { task.now.draws ≤ MOST_DRAWS }
     ensures held { D.held desk.new ≡ D.held desk.old }
-    ensures later { D.faults desk.old ≤ D.faults desk.new }
+    ensures faults { IsFaultTold (D.faults desk.old) (D.faults desk.new) (due result).status }
     ensures due { HasCome
         (ByDesk (D.held desk.old) (Rose (D.faults desk.old) (D.faults desk.new)))
         (D.served desk.old) (D.served desk.new)
@@ -55,7 +56,7 @@ fn after_session<R: AllocGlobal + Threads + Sync, D: Desk>(
 ) -> Result<Answer, Refusal>
     requires { MayGoOn task.now.draws session }
     ensures held { D.held desk.new ≡ D.held desk.old }
-    ensures later { D.faults desk.old ≤ D.faults desk.new }
+    ensures faults { IsFaultTold (D.faults desk.old) (D.faults desk.new) (due result).status }
     ensures due { HasCome
         (ByDesk (D.held desk.old) (Rose (D.faults desk.old) (D.faults desk.new)))
         (D.served desk.old) (D.served desk.new)
@@ -78,7 +79,7 @@ fn after_ballots<R: AllocGlobal + Threads + Sync, D: Desk>(
 ) -> Result<Answer, Refusal>
     requires { MayGoOn task.now.draws session }
     ensures held { D.held desk.new ≡ D.held desk.old }
-    ensures later { D.faults desk.old ≤ D.faults desk.new }
+    ensures faults { IsFaultTold (D.faults desk.old) (D.faults desk.new) (due result).status }
     ensures due { HasCome
         (ByDesk (D.held desk.old) (Rose (D.faults desk.old) (D.faults desk.new)))
         (D.served desk.old) (D.served desk.new)
@@ -110,7 +111,7 @@ fn after_manifest<R: AllocGlobal + Threads + Sync, D: Desk>(
     requires may { MayGoOn task.now.draws session }
     requires linked { cards.now.linked ≡ linked_of cards.now.manifest ballots.now }
     ensures held { D.held desk.new ≡ D.held desk.old }
-    ensures later { D.faults desk.old ≤ D.faults desk.new }
+    ensures faults { IsFaultTold (D.faults desk.old) (D.faults desk.new) (due result).status }
     ensures due { HasCome
         (ByDesk (D.held desk.old) (Rose (D.faults desk.old) (D.faults desk.new)))
         (D.served desk.old) (D.served desk.new)
@@ -139,7 +140,7 @@ fn after_check<D: Desk>(
     requires may { MayGoOn task.now.draws session }
     requires linked { cards.now.linked ≡ linked_of cards.now.manifest ballots.now }
     ensures held { D.held desk.new ≡ D.held desk.old }
-    ensures later { D.faults desk.old ≤ D.faults desk.new }
+    ensures faults { IsFaultTold (D.faults desk.old) (D.faults desk.new) (due result).status }
     ensures due { HasCome
         (ByDesk (D.held desk.old) (Rose (D.faults desk.old) (D.faults desk.new)))
         (D.served desk.old) (D.served desk.new)

@@ -1,4 +1,4 @@
-//! The commands on the session of an audit, one a module: it is opened, goes on by a round, is told.
+//! The commands on the session of an audit, one a module: it is opened, goes on by a round, is printed.
 #![tactic(auto)]
 
 mod accepted;

@@ -6,6 +6,7 @@ ghost use Rattle.manifest.specs.Linked.{first_without_card};
 ghost use Rattle.cli_base.specs.Accounts.{IsAccountedFor};
 ghost use Rattle.cli_base.specs.Begun.{HasCome};
 ghost use Rattle.cli_base.specs.Due.{due, IsOneOrMemory};
+ghost use Rattle.cli_base.specs.Faults.{IsFaultTold};
 ghost use Rattle.cli_base.specs.Script.{ByDesk, Runs};
 ghost use Rattle.command.specs.Limits.{IsUpTo};
 ghost use Rattle.session_commands.specs.Open.{Opens, after_ballots, after_manifest, all_digests, script};
@@ -50,7 +51,7 @@ pub fn answer<R: AllocGlobal + Threads + Sync, D: Desk>(
     requires limit { IsUpTo GREATEST_LIMIT task.now.limit }
     requires gamma { IsUpTo GREATEST_GAMMA task.now.gamma }
     ensures held { D.held desk.new ≡ D.held desk.old }
-    ensures later { D.faults desk.old ≤ D.faults desk.new }
+    ensures faults { IsFaultTold (D.faults desk.old) (D.faults desk.new) (due result).status }
     ensures due { HasCome
         (ByDesk (D.held desk.old) (Rose (D.faults desk.old) (D.faults desk.new)))
         (D.served desk.old) (D.served desk.new)
@@ -75,7 +76,7 @@ fn after_ballots<R: AllocGlobal + Threads + Sync, D: Desk>(
     requires limit { IsUpTo GREATEST_LIMIT task.now.limit }
     requires gamma { IsUpTo GREATEST_GAMMA task.now.gamma }
     ensures held { D.held desk.new ≡ D.held desk.old }
-    ensures later { D.faults desk.old ≤ D.faults desk.new }
+    ensures faults { IsFaultTold (D.faults desk.old) (D.faults desk.new) (due result).status }
     ensures due { HasCome
         (ByDesk (D.held desk.old) (Rose (D.faults desk.old) (D.faults desk.new)))
         (D.served desk.old) (D.served desk.new)
@@ -105,7 +106,7 @@ fn after_manifest<R: AllocGlobal + Threads + Sync, D: Desk>(
     requires gamma { IsUpTo GREATEST_GAMMA task.now.gamma }
     requires linked { first_without_card manifest.now ballots.now ≡ None }
     ensures held { D.held desk.new ≡ D.held desk.old }
-    ensures later { D.faults desk.old ≤ D.faults desk.new }
+    ensures faults { IsFaultTold (D.faults desk.old) (D.faults desk.new) (due result).status }
     ensures due { HasCome
         (ByDesk (D.held desk.old) (Rose (D.faults desk.old) (D.faults desk.new)))
         (D.served desk.old) (D.served desk.new)
@@ -119,7 +120,7 @@ fn after_manifest<R: AllocGlobal + Threads + Sync, D: Desk>(
     open(rt, task, ballots, manifest, &file, digests)
 }
 
-// The session of these inputs, where a check accepts the file.
+// The session of these inputs, if a check accepts the file.
 fn open<R: AllocGlobal + Threads + Sync>(
     rt: &R,
     task: &OpenTask,
@@ -138,7 +139,7 @@ fn open<R: AllocGlobal + Threads + Sync>(
     if let Some(answer) = unless_accepted(rt, ballots, file, task.budget)? {
         return Ok(answer);
     }
-    // Asked for what their contracts tell of the ballots, of the file's margin and of its claims: a session may begin with them.
+    // Asks for what their contracts say of the ballots, of the file's margin and of its claims: a session may begin with them.
     let _ids = ballots.ids();
     let _margin = file.margin();
     let _claims = file.claims();

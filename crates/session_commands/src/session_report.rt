@@ -1,9 +1,10 @@
-// `report SESSION`: what a session tells.
+// `report SESSION`: what is printed of a session.
 ghost use Rattle.std.specs.Prelude.{◌≡◌, ◌≤◌};
 ghost use Rattle.desk.specs.Count.{Rose};
 ghost use Rattle.cli_base.specs.Accounts.{IsAccountedFor};
 ghost use Rattle.cli_base.specs.Begun.{HasCome};
 ghost use Rattle.cli_base.specs.Due.{due, IsOneOrMemory};
+ghost use Rattle.cli_base.specs.Faults.{IsFaultTold};
 ghost use Rattle.cli_base.specs.Script.{ByDesk, Runs};
 ghost use Rattle.session_commands.specs.Report.{reported, script};
 
@@ -19,7 +20,7 @@ use std::alloc::Global;
 /// The lines of the session in a file.
 pub fn answer<D: Desk>(alloc: Global, desk: &mut D, task: &ReportTask) -> Result<Answer, Refusal>
     ensures held { D.held desk.new ≡ D.held desk.old }
-    ensures later { D.faults desk.old ≤ D.faults desk.new }
+    ensures faults { IsFaultTold (D.faults desk.old) (D.faults desk.new) (due result).status }
     ensures due { HasCome
         (ByDesk (D.held desk.old) (Rose (D.faults desk.old) (D.faults desk.new)))
         (D.served desk.old) (D.served desk.new)

@@ -31,7 +31,7 @@ one_card seed rounds = record {
   session = record { cards = 1; margins = 1 ∷ []; limit = 50000; gamma = 100; rounds = rounds };
 }
 
--- what the text of each begins with: all that stands before its rounds
+-- what the text of each begins with: all that comes before its rounds
 abbrev pub head : List ℕ
 head =
     codes "{\"assertions\":\"2c2c2c2c2c2c2c2c2c2c2c2c2c2c2c2c2c2c2c2c2c2c2c2c2c2c2c2c2c2c2c2c\"," ++

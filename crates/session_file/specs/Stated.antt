@@ -50,7 +50,7 @@ counts value = do
 
 -- ---- a round
 
--- its members, with the elements of its lists as they stand
+-- its members, with the elements of its lists as they are
 pub record Entry : Type 0 where
   pub counts : List Data
   pub draws : ℕ
@@ -72,7 +72,7 @@ round value = do
 
 -- ---- the session's object
 
--- its members, with the elements of its lists as they stand
+-- its members, with the elements of its lists as they are
 pub record Heading : Type 0 where
   pub contest : List ℕ
   pub margins : List Data

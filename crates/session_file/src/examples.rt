@@ -28,14 +28,14 @@ pub fn one_card()
         ++ codes "\"seed\":\"2024\",\"signed_off\":true,\"version\":1}\n" }
 {}
 
-/// A quotation mark and a backslash in a seed are printed behind a backslash.
+/// A quotation mark and a backslash in a seed are printed after a backslash.
 pub fn escaped_seed()
     ensures { session_text (examples.one_card (codes "a \"b\\") []) ≡
         examples.head
         ++ codes "\"rounds\":[],\"seed\":\"a \\\"b\\\\\",\"signed_off\":false,\"version\":1}\n" }
 {}
 
-/// Five draws of the only card; with a risk that is a unit too small, at another gamma, and where there is no claim.
+/// Five draws of the only card; with a risk that is a unit too small, at another gamma, and with no claim.
 pub fn five_draws()
     ensures right { IsTrue (is_round 1 100 (1 ∷ []) examples.five_draws) }
     ensures risk { is_round 1 100 (1 ∷ []) (examples.clean_round 5 48282842081079906) ≡ false }

@@ -77,17 +77,15 @@ fn content_of(alloc: Global, value: &Value) -> Result<Session, SessionFault>
 
 /// Reads a session file of version 1.
 ///
-/// The bytes are one JSON object, with its members in any order. Further members are passed over, and of a repeated
-/// name the last counts. Numbers are whole ones, without a point or an exponent, and the hexadecimal digits of a digest
-/// may be of either case.
+/// The bytes are one JSON object, with its members in any order. Further members are skipped, and if a name is repeated the last one
+/// counts. Numbers are whole ones, without a point or an exponent, and the hexadecimal digits of a digest may be of either case.
 ///
-/// It is refused exactly where the bytes aren't JSON; a member is missing or of another kind, or a digest hasn't 64
-/// hexadecimal digits; the version isn't `VERSION`; the contest's id or the seed is none; the cards are above
-/// `MOST_CARDS`, the limit isn't 1 to `GREATEST_LIMIT`, gamma isn't 1 to `GREATEST_GAMMA`, or a round's draws aren't 1 to
-/// `MOST_DRAWS`; there is no margin, or one isn't 1 to the number of cards; the draws of the rounds don't rise; a round
-/// has another number of counts or of risks than there are margins, counts that aren't five numbers with the round's
-/// draws as their sum, or a risk that isn't the printed risk of its counts; or `signed_off` isn't whether each claim is
-/// confirmed at the last round.
+/// It is refused exactly if the bytes aren't JSON; a member is missing or of another kind, or a digest doesn't have 64 hexadecimal
+/// digits; the version isn't `VERSION`; the contest's id or the seed is none; the cards are above `MOST_CARDS`, the limit isn't 1 to
+/// `GREATEST_LIMIT`, gamma isn't 1 to `GREATEST_GAMMA`, or a round's draws aren't 1 to `MOST_DRAWS`; there is no margin, or one isn't 1
+/// to the number of cards; the draws of the rounds don't rise; a round has another number of counts or of risks than there are margins,
+/// counts that aren't five numbers with the round's draws as their sum, or a risk that isn't the printed risk of its counts; or
+/// `signed_off` isn't whether each claim is confirmed at the last round.
 pub fn read_session(alloc: Global, bytes: &[u8]) -> Result<Session, SessionFault>
     ensures read { IfOk result (λ session. session_of bytes.now ≡ Some session) }
     ensures refused { IfErr result (Refuses (session_of bytes.now)) }

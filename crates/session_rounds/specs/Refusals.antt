@@ -11,7 +11,7 @@ use Rattle.report.specs.Risks.{counts_text}
 use Rattle.cli_base.specs.Outcome.{Verdict, Refused}
 use Rattle.input_files.specs.Refusals.{no_record_text}
 
--- no session stands in the file
+-- there is no session in the file
 abbrev pub refused_session : List ℕ → Verdict
 refused_session name = Refused name (codes "S1")
 
@@ -23,7 +23,7 @@ digests_text expected found = codes "S2 expected " ++ expected ++ codes " found 
 abbrev pub differs_text : List ℕ → List ℕ → List ℕ
 differs_text expected found = digests_text (encode_lower expected) (encode_lower found)
 
--- a file is refused where the digest of its bytes isn't the one that the session has
+-- a file is refused if the digest of its bytes isn't the one that the session has
 abbrev pub other_digest : List ℕ → List ℕ → List ℕ → Option Verdict
 other_digest name expected bytes =
     if is_same expected (sha256 bytes) then None
@@ -47,7 +47,7 @@ abbrev pub changed_text : ℕ → ℕ → Counts → Counts → List ℕ
 changed_text round claim expected found =
     counted_text round claim (counts_text expected) (counts_text found)
 
--- the seen file lacks a card; all else is wrong with the session file
+-- the seen file lacks a card; any other fault is the session file's
 abbrev pub refused_round : List ℕ → List ℕ → AdvanceFault → Option Verdict
 refused_round session seen (Smaller had) = Some (Refused session (had_text had))
 refused_round session seen (NoRecord card k) = Some (Refused seen (no_record_text card k))

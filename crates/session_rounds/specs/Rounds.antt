@@ -30,7 +30,7 @@ use Rattle.session_rounds.specs.Refusals.{had_text, other_digest, other_facts, r
 abbrev pub session_in : List ℕ → List ℕ → Result Content Verdict
 session_in name bytes = ok_or (session_of bytes) (refused_session name)
 
--- a session that may go on to so many draws: its last round had fewer
+-- a session that may go on to this many draws: its last round had fewer
 pub record MayGoOn (draws : ℕ) (session : Content) : Type 0 where
   pub fewer : last_draws session.session.rounds < draws
   pub most : draws ≤ MOST_DRAWS
@@ -41,7 +41,7 @@ had_as_many name draws rounds =
     if nat_le draws (last_draws rounds) then Some (Refused name (had_text (last_draws rounds)))
     else None
 
--- the session in the bytes of the file with this name, which goes on to so many draws
+-- the session in the bytes of the file with this name, which goes on to this many draws
 abbrev pub session_to_go_on : List ℕ → ℕ → List ℕ → Result Content Verdict
 session_to_go_on name draws bytes = then_judged (session_in name bytes) (λ session.
     unless (had_as_many name draws session.session.rounds) (Ok session))
@@ -95,7 +95,7 @@ changed session values compared draws =
 
 -- ---- what it comes to
 
--- 0 where it is signed off
+-- 0 if it is signed off
 abbrev pub kind_of : Session → AnswerKind
 kind_of session = confirmed_kind (is_signed_off session)
 
@@ -129,7 +129,7 @@ module _ (name seen : List ℕ) (draws : ℕ) where
       go_on (told (refused_seen seen) (seen_of batches candidates bytes)) (λ entries.
       Ends (GoesOn session values (record { recorded = recorded; entries = entries }))))
 
-  -- a round, or S5 where the session isn't one of its inputs
+  -- a round, or S5 if the session isn't one of its inputs
   abbrev pub one_round :
       Bool → Content → List (List ℕ → ℕ) → Batches → List Recorded → List Id → Script
   one_round true session values batches recorded candidates =

@@ -5,6 +5,7 @@ ghost use Rattle.irv_base.specs.declared.limits.TheConstants.{ROOM};
 ghost use Rattle.cli_base.specs.Accounts.{IsAccountedFor};
 ghost use Rattle.cli_base.specs.Begun.{HasCome};
 ghost use Rattle.cli_base.specs.Due.{due, due_refusal, IsOneOrMemory};
+ghost use Rattle.cli_base.specs.Faults.{IsFaultTold};
 ghost use Rattle.cli_base.specs.Script.{ByDesk, Runs};
 ghost use Rattle.input_files.specs.Judged.{IsJudged, IsTold};
 ghost use Rattle.session_rounds.specs.Refusals.{refused_round};
@@ -91,7 +92,7 @@ fn next_session<T: Claims>(
     }
 }
 
-// The answer that gives a session, and tells whether it is signed off.
+// The answer that prints a session, and says whether it is signed off.
 fn session_answer(alloc: Global, session: &Session) -> Result<Answer, Refusal>
     ensures { IsOneOrMemory (λ verdict. verdict ≡ session_answer session.now) (due result) }
 {
@@ -134,7 +135,7 @@ fn with_seen<D: Desk, T: Claims>(
     requires may { MayGoOn task.now.draws session }
     requires few { length inputs.now.candidates.now ≤ ROOM }
     ensures held { D.held desk.new ≡ D.held desk.old }
-    ensures later { D.faults desk.old ≤ D.faults desk.new }
+    ensures faults { IsFaultTold (D.faults desk.old) (D.faults desk.new) (due result).status }
     ensures due { HasCome
         (ByDesk (D.held desk.old) (Rose (D.faults desk.old) (D.faults desk.new)))
         (D.served desk.old) (D.served desk.new)
@@ -150,8 +151,8 @@ fn with_seen<D: Desk, T: Claims>(
     go_on(alloc, task, session, &cards.linked, inputs.claims, &seen)
 }
 
-/// The session with a round more, by what is seen of the cards, where `agree` says that its cards, contest and margins are those of the
-/// inputs; else S5.
+/// The session with one more round, by what is seen of the cards, if `agree` says that its cards, contest and margins are those of the
+/// inputs; otherwise S5.
 pub fn one_round<D: Desk, T: Claims>(
     alloc: Global,
     desk: &mut D,
@@ -166,7 +167,7 @@ pub fn one_round<D: Desk, T: Claims>(
     requires may { MayGoOn task.now.draws session }
     requires few { length inputs.now.candidates.now ≤ ROOM }
     ensures held { D.held desk.new ≡ D.held desk.old }
-    ensures later { D.faults desk.old ≤ D.faults desk.new }
+    ensures faults { IsFaultTold (D.faults desk.old) (D.faults desk.new) (due result).status }
     ensures due { HasCome
         (ByDesk (D.held desk.old) (Rose (D.faults desk.old) (D.faults desk.new)))
         (D.served desk.old) (D.served desk.new)

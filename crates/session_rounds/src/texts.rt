@@ -26,7 +26,7 @@ fn digests_text(alloc: Global, expected: &str, found: &str) -> Result<String, Al
     format!(in alloc; "S2 expected {expected} found {found}")
 }
 
-/// A session had so many draws.
+/// A session had this many draws.
 pub(crate) fn had_text(alloc: Global, had: u32) -> Result<String, AllocError>
     ensures { IfOk result (λ text. string_bytes text ≡ had_text had) }
 {

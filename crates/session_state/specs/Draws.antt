@@ -11,7 +11,7 @@ use Rattle.km_risk.specs.Counts.{counts_of}
 use Rattle.km_risk.specs.Printed.{printed_risk}
 use Rattle.session_state.specs.Sessions.{Round, Session, is_signed_off}
 
--- what is seen of each of so many cards, where only some were looked at: each other counts as missing
+-- what is seen of each of this many cards, if only some were looked at: each other card counts as missing
 abbrev pub seen_of_all : (ℕ → Option Seen) → ℕ → List Seen
 seen_of_all looked_at cards =
     map (λ card. unwrap_or (looked_at card) Missing) (range_with_len 1 cards)
@@ -70,7 +70,7 @@ module _ (limit gamma : ℕ) (claims : List Audited) (recorded : List Recorded) 
         ≡ map (λ claim. counts_after claim.value recorded seen draws round.draws) claims)
         session.rounds
 
-  -- the session has rounds of these draws; where they end is free
+  -- the session has rounds of these draws; their ends are free
   pub record IsSessionOf (session : Session) : Type 0 where
     pub ends : List ℕ
     pub are : AreRoundEnds (length draws) ends

@@ -28,7 +28,7 @@ digest_pairs session files =
     (session.ballots, files.ballots) ∷ (session.manifest, files.manifest)
     ∷ (session.assertions, files.assertions) ∷ []
 
--- it is told of the first digest that differs
+-- it names the first digest that differs
 abbrev pub IsOtherDigest : Digests → Digests → InputFault → Type 0
 IsOtherDigest session files (Differs which expected found) =
     IsFirstDifferent 1 (digest_pairs session files) which expected found
@@ -55,7 +55,7 @@ module _ (content : Content) (digests : Digests) (cards : ℕ) (contest : Id) (m
     pub digests_are : AreSameDigests content.digests digests
     pub facts : HasFacts content cards contest margins
 
-  -- the first digest that differs, and else a fact that does
+  -- the first digest that differs, or otherwise a fact that does
   abbrev pub IsFault : InputFault → Type 0
   IsFault (Differs which expected found) =
       IsOtherDigest content.digests digests (Differs which expected found)

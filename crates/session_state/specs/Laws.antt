@@ -37,7 +37,7 @@ SignedOffLaw =
     (map (discrepancy_of claim.value recorded seen) (take k draws))))
     claims
 
--- wherever its rounds end, no session of draws is signed off where the one with a round after each draw isn't
+-- wherever its rounds end, no session of draws is signed off if the one with a round after each draw isn't
 abbrev pub EveryDrawLaw : Type 0
 EveryDrawLaw =
     (limit gamma : ℕ) (claims : List Audited) (recorded : List Recorded) (seen : List Seen)
@@ -56,7 +56,7 @@ PartlySeenLaw =
     IfSome (looked_at card)
     (λ seen. slice_index_or (seen_of_all looked_at (length actual)) (card - 1) Missing ≡ seen))
 
--- a session has some facts exactly where the test says so
+-- a session has some facts exactly if the test says so
 abbrev pub FactsLaw : Type 0
 FactsLaw =
     (content : Content) (cards : ℕ) (contest : Id) (margins : List ℕ) →

@@ -24,7 +24,7 @@ pub record AreTerms (limit gamma : ℕ) : Type 0 where
   pub below_one : limit < millionths_in_one
   pub positive : 1 ≤ gamma
 
--- of the actual rankings the claim isn't true: they have a value of at most one in the mean
+-- the claim isn't true of the actual rankings: they have a mean value of at most one
 abbrev pub IsUntrue : Audited → List (List ℕ) → Type 0
 IsUntrue claim actual = sum_by claim.value actual ≤ length actual
 
@@ -32,8 +32,8 @@ IsUntrue claim actual = sum_by claim.value actual ≤ length actual
 
 module _ (limit gamma : ℕ) (claims : List Audited) (recorded : List Recorded)
     (actual : List (List ℕ)) where
-  -- the audit can be signed off on these draws: some cards may be missing, and the others are read as they are; the rounds end
-  -- where one likes, also by a look at the draws; and the session of the draws is signed off at its last round
+  -- the audit can be signed off on these draws: some cards may be missing, and the others are read as they are; the rounds may end
+  -- anywhere, even after a look at the draws; and the session of the draws is signed off at its last round
   pub record MayBeSignedOff (draws : List ℕ) : Type 0 where
     pub seen : List Seen
     pub readings : AreReadings actual seen
@@ -49,7 +49,7 @@ module _ (limit gamma : ℕ) (claims : List Audited) (recorded : List Recorded)
 
 -- ---- what is promised
 
--- where a claim isn't true, they are at most limit millionths of all sequences
+-- if a claim isn't true, they are at most limit millionths of all sequences
 abbrev pub ValuesRiskLimit : Type 0
 ValuesRiskLimit =
     (limit gamma n : ℕ) (claims : List Audited) (recorded : List Recorded)
@@ -59,7 +59,7 @@ ValuesRiskLimit =
     AreSignedOff limit gamma claims recorded actual n signed →
     length signed * millionths_in_one ≤ limit * length recorded ^ n
 
--- the same as a count of the listed sequences, where what is read of the cards is fixed before anything is drawn
+-- the same as a count of the listed sequences, if what is read of the cards is fixed before anything is drawn
 abbrev pub CountedValuesRiskLimit : Type 0
 CountedValuesRiskLimit =
     (limit gamma n : ℕ) (claims : List Audited) (recorded : List Recorded)

@@ -1,6 +1,6 @@
 // The digests of an audit's files.
 
-/// The SHA-256 digests of the files that an audit stands on.
+/// The SHA-256 digests of the files of an audit.
 #[derive(Clone, Copy, Debug, PartialEq, Eq)]
 pub struct Digests {
     /// That of the ballot file.

@@ -86,28 +86,28 @@ fn are_margins(margins: &[u32], claims: &[Claim]) -> bool
     true
 }
 
-// The session has so many cards, and this contest.
+// The session has this many cards, and this contest.
 fn is_about(s: &Session, cards: u32, contest: &Name) -> bool
     ensures { result ≡ ((s.now.session.cards == cards) && is_same s.now.contest contest.now) }
 {
     s.cards() == cards && s.contest().bytes() == contest.bytes()
 }
 
-/// Whether the session has so many cards, this contest and these margins.
+/// Whether the session has this many cards, this contest and these margins.
 pub fn has_facts_of(s: &Session, cards: u32, contest: &Name, margins: &[u32]) -> bool
     ensures { result ≡ has_facts s.now cards contest.now margins.now }
 {
     is_about(s, cards, contest) && s.margins() == margins
 }
 
-/// Whether the session has so many cards, and the contest and the margins of the assertion file.
+/// Whether the session has this many cards, and the contest and the margins of the assertion file.
 pub fn has_facts(s: &Session, cards: u32, f: &AssertionFile) -> bool
     ensures { result ≡ has_facts s.now cards f.now.contest (margins_of f.now) }
 {
     is_about(s, cards, f.contest()) && are_margins(s.margins(), f.claims())
 }
 
-// The first digest of the session that isn't that of the file, and else that the facts of the session aren't those of the files.
+// The first digest of the session that isn't that of the file, or otherwise that the facts of the session aren't those of the files.
 fn compared(s: &Session, d: &Digests, agree: bool) -> Result<(), InputFault>
     ensures same { (cards : ℕ) (contest margins : List ℕ)
         → agree ≡ has_facts s.now cards contest margins
@@ -125,8 +125,8 @@ fn compared(s: &Session, d: &Digests, agree: bool) -> Result<(), InputFault>
     Ok(())
 }
 
-/// Whether the session is one of files with these digests, a manifest with so many cards, a contest and the margins of its
-/// claims: the first digest that differs, in the order ballots, manifest, assertions, and else a fact that does.
+/// Whether the session is one of files with these digests, a manifest with this many cards, a contest and the margins of its claims: the
+/// first digest that differs, in the order ballots, manifest, assertions, or otherwise a fact that does.
 pub fn same_facts(
     s: &Session,
     d: &Digests,
@@ -140,8 +140,8 @@ pub fn same_facts(
     compared(s, d, has_facts_of(s, cards, contest, margins))
 }
 
-/// Whether the session is one of files with these digests, a manifest with so many cards, and an assertion file: the first
-/// digest that differs, in the order ballots, manifest, assertions, and else a fact that does.
+/// Whether the session is one of files with these digests, a manifest with this many cards, and an assertion file: the first digest that
+/// differs, in the order ballots, manifest, assertions, or otherwise a fact that does.
 pub fn same_inputs(
     s: &Session,
     d: &Digests,

@@ -2,22 +2,22 @@
 ghost use Rattle.session_state.specs.Laws.{SessionLaw, SignedOffLaw, EveryDrawLaw, PartlySeenLaw, FactsLaw};
 ghost use Rattle.session_state.specs.RiskOfValues.{ValuesRiskLimit, CountedValuesRiskLimit};
 
-/// A session is that of some draws exactly where it keeps what a session keeps, and its counts are those of the draws.
+/// A session is that of some draws exactly if it keeps what a session keeps, and its counts are those of the draws.
 pub fn session()
     ensures { SessionLaw }
 {}
 
-/// Where a session is signed off, each claim had an exact risk within the limit after some of the draws.
+/// If a session is signed off, each claim had an exact risk within the limit after some of the draws.
 pub fn signed_off()
     ensures { SignedOffLaw }
 {}
 
-/// Some session of the draws is signed off exactly where the one with a round after each draw is.
+/// Some session of the draws is signed off exactly if the one with a round after each draw is.
 pub fn every_draw()
     ensures { EveryDrawLaw }
 {}
 
-/// Where only some cards were looked at, each other one counts as missing, and that is a reading of all cards.
+/// If only some cards were looked at, each other one counts as missing, and that is a reading of all cards.
 pub fn partly_seen()
     ensures { PartlySeenLaw }
 {}
@@ -27,7 +27,7 @@ pub fn facts()
     ensures { FactsLaw }
 {}
 
-/// The risk limit of any claims, whatever they are about: where one isn't true, few sequences are signed off.
+/// The risk limit of any claims, whatever they are about: if one isn't true, few sequences are signed off.
 pub fn values_risk_limit()
     ensures { ValuesRiskLimit }
 {}

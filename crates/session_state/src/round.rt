@@ -25,7 +25,7 @@ impl Model for DoneRound {
 }
 
 impl DoneRound {
-    /// The round with so many draws in all, and these counts and printed risks, one each for a claim.
+    /// The round with this many draws in all, and these counts and printed risks, one each for a claim.
     pub fn new(draws: u32, counts: Vec<Counts>, risks: Vec<u64>) -> DoneRound
         ensures { result ≡ record { draws = draws; counts = counts.items; risks = risks.items } }
     {

@@ -168,7 +168,7 @@ impl Session {
         self.rounds.as_slice()
     }
 
-    /// Adds a round behind the others. Where memory is wanting, the session stays as it is.
+    /// Adds a round after the others. If memory is short, the session stays as it is.
     pub fn add_round(&mut self, round: DoneRound) -> Result<(), Memory>
         requires round { IsRound self.old.session round }
         requires later { All (λ earlier. earlier.draws < round.draws) self.old.session.rounds }

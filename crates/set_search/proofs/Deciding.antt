@@ -166,6 +166,10 @@ none-under n winner records zero =
         omega (arith, lt, zero)
 
 -- ---- what the parts come to
+pub start-hardness : (bag : Kept) (records : List (List ℕ)) (tab : Tabulated) (start : Best) → IsOf bag records → IsReached bag tab.winner start →
+    start.order ≡ start_order tab.order → start.margin ≡ first_bound bag.n records tab.order
+start-hardness bag records tab start of reached is = sym (ap (low bag.n records) (sym is) ∙ reached.hardness records of)
+
 -- a start order of hardness 0 tells that the contest isn't decided
 pub start-undecided : (bag : Kept) (records : List (List ℕ)) (tab : Tabulated) (sets : ℕ) (start : Best) → IsOf bag records →
     IsReached bag tab.winner start → start.order ≡ start_order tab.order → start.margin ≡ 0 → IsUndecided bag.n records tab sets

@@ -26,11 +26,11 @@ use Rattle.set_search.specs.Sets.{best_of}
 use Rattle.set_search.specs.declared.by_margin.Limit.TheVariants.{Below}
 
 -- ---- assertions as values
-same-self : (a : Assertion) → is_same a a ≡ true
+pub same-self : (a : Assertion) → is_same a a ≡ true
 same-self (Neb w l) = and_from (w == w) (l == l) (eq-eqb w w refl) (eq-eqb l l refl)
 same-self (Nen w l s) = and_from ((w == w) && (l == l)) (s == s) (and_from (w == w) (l == l) (eq-eqb w w refl) (eq-eqb l l refl)) (eq-eqb s s refl)
 
-is_the_same : (a b : Assertion) → is_same a b ≡ true → a ≡ b
+pub is_the_same : (a b : Assertion) → is_same a b ≡ true → a ≡ b
 is_the_same (Neb w l) (Neb v k) h =
     let (p, q) = and_parts (w == v) (l == k) h in
     let p' : w ≡ v = eqb-true w v p in

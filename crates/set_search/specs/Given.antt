@@ -29,7 +29,7 @@ abbrev pub with_steps : (Assertion → Assertion → Ordering) → ℕ → List 
 with_steps cmp n records margin entries set closed =
     with_each cmp n records margin entries set (outside n closed)
 
--- the sets are those that stand below the margin
+-- the sets are those that are reached below the margin
 abbrev pub AreCover : ℕ → List (List ℕ) → ℕ → ℕ → List ℕ → Type 0
 AreCover n records winner margin sets =
     (set : ℕ) →

@@ -27,7 +27,7 @@ CertifiedIsOne =
     IsCertified n records winner sets x → IsCertified n records winner others y →
     SameCertificate x y
 
--- within so many suffixes for each alternative winner
+-- within this many suffixes for each alternative winner
 abbrev pub SameByNodes : Type 0
 SameByNodes =
     (n winner sets nodes : ℕ) (records : List (List ℕ)) (x y : Certificate) →

@@ -5,7 +5,7 @@ use Rattle.set_search.specs.Limits.{within}
 use Rattle.set_search.specs.Sets.{best_of}
 use Rattle.set_search.specs.declared.by_margin.Limit.TheVariants.{AtMost}
 
--- the best margin, or one that is no greater and by whose steps more sets stand than the budget has
+-- the best margin, or one that is no greater and by whose steps more sets are reached than the budget has
 pub record IsLevel (n : ℕ) (records : List (List ℕ)) (winner sets level : ℕ) : Type 0 where
   pub most : level ≤ best_of n records winner
   pub ends : (level ≡ best_of n records winner)

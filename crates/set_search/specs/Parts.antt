@@ -18,7 +18,7 @@ abbrev pub IsOrderIn : ℕ → List (List ℕ) → ℕ → ℕ → Option Best �
 IsOrderIn n records winner sets None = sets < sets_for n records winner
 IsOrderIn n records winner sets (Some best) = IsOrder n records winner sets best
 
--- the sets that stand below the best margin
+-- the sets that are reached below the best margin
 pub record IsCover (n : ℕ) (records : List (List ℕ)) (winner sets : ℕ) (seen : List ℕ)
     : Type 0 where
   pub cover : AreCover n records winner (best_of n records winner) seen

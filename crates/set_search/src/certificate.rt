@@ -4,14 +4,13 @@ ghost use Rattle.std.specs.Option.{MatchOption};
 ghost use Rattle.irv_base.specs.Orders.{is_order, Elects};
 ghost use Rattle.set_tallies.specs.Bags.{IsOf};
 ghost use Rattle.set_search.specs.Answers.{IsEnd, IsFault};
-ghost use Rattle.set_search.specs.Parts.{IsOrderIn, IsCover};
+ghost use Rattle.set_search.specs.Parts.{IsCover};
 ghost use Rattle.set_search.specs.Sets.{best_of, sets_for};
 
+use crate::best::{best_in, spent_from};
 use crate::by_margin::{ByMargin, Limit};
 use crate::claims::claims_of;
-use crate::ends::{SetsEnd, SetsFault};
-use crate::level::level;
-use bound_search::{Best, first_order};
+use crate::ends::{BestEnd, BestFound, SetsEnd, SetsFault};
 use certifier::Certificate;
 use indexmap::IndexSet;
 use irv_base::{CandSet, Candidate, Memory};
@@ -20,35 +19,7 @@ use set_tallies::Counted;
 use set_walk::{WalkEnd, WalkFault, walk_within};
 use std::alloc::Global;
 
-// The certificate's order with the best margin, or none where more sets are needed than the budget has.
-fn order_in(
-    alloc: Global,
-    steps: &mut ByMargin<'_>,
-    winner: Candidate,
-    sets: u32,
-) -> Result<Option<Best>, Memory>
-    requires { winner < steps.old.tallies.bag.n }
-    ensures order { (records : List (List ℕ)) → IsOf steps.old.tallies.bag records
-        → IfOk result (IsOrderIn steps.old.tallies.bag.n records winner sets) }
-    ensures same { steps.new.tallies ≡ steps.old.tallies }
-{
-    let n = steps.tallies.candidates();
-    let margin = level(alloc, &mut steps.tallies, winner, sets)?;
-    steps.limit = Limit::AtMost(margin);
-    match walk_within(alloc, steps, n, winner, sets) {
-        Ok(end) => match end {
-            WalkEnd::Found(order) => Ok(Some(Best { order, margin })),
-            // An order walks by this margin, or more sets stand than the budget has, so that the walk doesn't end.
-            WalkEnd::Ended(_seen) => Ok(None),
-        },
-        Err(fault) => match fault {
-            WalkFault::Spent => Ok(None),
-            WalkFault::Memory => Err(Memory),
-        },
-    }
-}
-
-// The sets that stand below the best margin, or none where they are more than the budget has.
+// The sets that are reached below the best margin, or none if they are more than the budget has.
 fn cover_in(
     alloc: Global,
     steps: &mut ByMargin<'_>,
@@ -81,14 +52,14 @@ fn cover_in(
     }
 }
 
-/// The canonical certificate of the contest with these records, of which `tab` is the tabulation, found by sets: what is put in front of
-/// a suffix depends on its set alone, so a walk goes into a set once. Three walks are made: for the best margin, for the certificate's
+/// The canonical certificate of the contest with these records, of which `tab` is the tabulation, found by sets: what can be put in front
+/// of a suffix depends only on its set, so a walk goes into a set once. Three walks are made: for the best margin, for the certificate's
 /// order, and for the sets below that margin, whose steps give the claims.
 ///
 /// Two counts of sets are taken, for all alternative winners together: those of suffixes that elect another candidate than the winner,
 /// aren't whole orders, and have a low below the best margin; and those of such suffixes whose low is at most the best margin and that
-/// come before the certificate's order, both read backwards. Where one of them is above `sets`, the answer is `Spent`; but a contest whose
-/// start order has hardness 0 isn't decided, and is told so whatever the budget. The other error is want of memory.
+/// come before the certificate's order, both read backwards. If one of them is above `sets`, the answer is `Spent`. But if the start
+/// order has hardness 0, the contest isn't decided, and the answer says so whatever the budget. The other error is want of memory.
 ///
 /// Time and memory grow with the number of sets, and not with that of suffixes.
 pub fn certify_by_sets(
@@ -104,27 +75,19 @@ pub fn certify_by_sets(
     ensures fault { (records : List (List ℕ)) → IsOf counted.now.bag records
         → IfErr result (IsFault counted.now.bag.n records tab.now sets) }
 {
-    let mut tallies = counted.tallies()?;
-    let start = first_order(tab, &mut tallies)?;
-    if start.margin == 0 {
-        return Ok(SetsEnd::Undecided);
-    }
-    let spent = SetsFault::Spent {
-        order: start.order,
-        margin: start.margin,
-    };
+    let tallies = counted.tallies()?;
+    let n = tallies.candidates();
+    prove!(1 < n);
     let mut steps = ByMargin {
         tallies,
         limit: Limit::AtMost(0),
     };
-    let Some(best) = order_in(alloc, &mut steps, tab.winner, sets)? else {
-        return Err(spent);
+    let BestFound { best, start } = match best_in(alloc, &mut steps, tab, sets)? {
+        BestEnd::Found(found) => found,
+        BestEnd::Undecided => return Ok(SetsEnd::Undecided),
     };
-    if best.margin == 0 {
-        return Ok(SetsEnd::Undecided);
-    }
     let Some(cover) = cover_in(alloc, &mut steps, tab.winner, best.margin, sets)? else {
-        return Err(spent);
+        return Err(spent_from(&start));
     };
     let claims = claims_of(
         alloc,

@@ -59,7 +59,8 @@ fn put_steps(
     Ok(())
 }
 
-/// The claims of the certificate, in the fixed order: `margin` is the best margin, above 0, and these are the sets that stand below it.
+/// The claims of the certificate, in the fixed order: `margin` is the best margin, above 0, and these are the sets that are reached below
+/// it.
 pub(crate) fn claims_of(
     alloc: Global,
     tallies: &mut Tallies<'_>,

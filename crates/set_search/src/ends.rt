@@ -2,6 +2,7 @@
 ghost use Rattle.std.specs.Prelude.{◌≡◌};
 ghost use Rattle.set_search.specs.declared.ends.SetsFault.TheVariants.{Memory as WantOfMemory};
 
+use bound_search::Best;
 use certifier::Certificate;
 use irv_base::{Memory, Order};
 use std::error::Error;
@@ -16,10 +17,28 @@ pub enum SetsEnd {
     Undecided,
 }
 
+/// The certificate's order with the best margin, which is above 0, and the order that the search started with, with its hardness.
+#[derive(Clone, Copy)]
+pub struct BestFound {
+    /// The certificate's order.
+    pub best: Best,
+    /// The order that the search started with.
+    pub start: Best,
+}
+
+/// How a search by sets for the best margin ends.
+#[derive(Clone, Copy)]
+pub enum BestEnd {
+    /// With the certificate's order.
+    Found(BestFound),
+    /// The best margin is 0: some ways of breaking ties elect another candidate.
+    Undecided,
+}
+
 /// Why a search by sets doesn't come to its end.
 #[derive(Clone, Copy)]
 pub enum SetsFault {
-    /// More sets are needed than the budget has. Beside it the order that a search starts with, and its hardness, in votes, which is
+    /// More sets are needed than the budget has. With it comes the order that a search starts with, and its hardness, in votes, which is
     /// above 0.
     Spent { order: Order, margin: u32 },
     /// Memory could not be had.

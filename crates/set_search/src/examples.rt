@@ -6,8 +6,8 @@ ghost use Rattle.set_search.specs.Sets.{cover_sets, order_sets, sets_for};
 
 use assertions::Assertion;
 
-/// Five ballots 0, four 1,2 and three 2,1. The winner is 1. Below the best margin, 1, stands the set of 0 alone; before the certificate's
-/// order 1,0,2, read backwards, stand within it those of 0, of 2, and of 2 and 0.
+/// Five ballots 0, four 1,2 and three 2,1. The winner is 1. Below the best margin, 1, only the set of 0 is reached; before the
+/// certificate's order 1,0,2, read backwards, those of 0, of 2, and of 2 and 0 are reached within it.
 pub fn three_candidates()
     ensures cover { cover_sets 3 contests.three_candidates 1 ≡ 1 }
     ensures order { order_sets 3 contests.three_candidates 1 ≡ 3 }
@@ -17,7 +17,7 @@ pub fn three_candidates()
         ≡ record { low = 2; by = Some (Assertion.Nen 1 0 3) } }
 {}
 
-/// Three ballots 0 and two 1. Nothing stands below the best margin, 1, and the order 0,1 is the first that is tried.
+/// Three ballots 0 and two 1. Nothing is reached below the best margin, 1, and the order 0,1 is the first that is tried.
 pub fn two_candidates()
     ensures cover { cover_sets 2 contests.two_candidates 0 ≡ 0 }
     ensures order { order_sets 2 contests.two_candidates 0 ≡ 1 }

@@ -6,7 +6,7 @@ pub fn sets_are_few()
     ensures { SetsAreFew }
 {}
 
-/// So a budget of so many sets is never spent.
+/// So a budget of this many sets is never spent.
 pub fn enough_sets()
     ensures { EnoughSets }
 {}

@@ -11,10 +11,9 @@ use set_tallies::Tallies;
 use std::alloc::Global;
 use std::collections::BinaryHeap;
 
-/// The best margin, or a smaller one by whose steps more sets stand than the budget has.
+/// The best margin, or a smaller one by whose steps more sets are reached than the budget has.
 ///
-/// The sets are gone into by the least low first, each once, so that the margin only rises, up to the first set that has all
-/// candidates.
+/// The sets are gone into by the least low first, each once, so the margin only rises, up to the first set that has all candidates.
 pub(crate) fn level(
     alloc: Global,
     tallies: &mut Tallies<'_>,

@@ -2,6 +2,7 @@
 //! certificate that the race and the walks through suffixes find; what differs is which contests the budget suffices for.
 #![tactic(auto)]
 
+mod best;
 mod by_margin;
 mod certificate;
 mod claims;
@@ -12,5 +13,6 @@ mod level;
 mod steps;
 mod waiting;
 
+pub use best::best_by_sets;
 pub use certificate::certify_by_sets;
-pub use ends::{SetsEnd, SetsFault};
+pub use ends::{BestEnd, BestFound, SetsEnd, SetsFault};

@@ -11,7 +11,7 @@ pub record Kept : Type 0 where
   pub n : ℕ
   -- how many records there are
   pub records : ℕ
-  -- of each set and each candidate: how many ballots have the candidate with nobody of the set before
+  -- for each set and each candidate: how many ballots have the candidate with nobody of the set before
   pub votes : List (List ℕ)
 
 abbrev pub votes_at : Kept → ℕ → ℕ → ℕ
@@ -45,7 +45,7 @@ pub record IsKept (bag : Kept) : Type 0 where
 abbrev pub tallies : List (List ℕ) → ℕ → ℕ → List ℕ
 tallies records n set = map (tally records set) (candidates n)
 
--- a row has the tallies of those in the set. What it has for others isn't told
+-- a row has the tallies of those in the set; what it has for others is unknown
 abbrev pub HasTallies : List (List ℕ) → ℕ → ℕ → List ℕ → Type 0
 HasTallies records n set row =
     (c : ℕ) → c < n → has set c ≡ true → get_or row c 0 ≡ tally records set c
@@ -67,7 +67,7 @@ total entries = sum_by (λ e. e.count) entries
 pub record AreEntries (n records : ℕ) (lists : List (List Entry)) : Type 0 where
   pub one_each : length lists ≡ n
   pub few : All (λ entries. total entries ≤ records) lists
-  -- nobody stands before itself
+  -- nobody comes before itself
   pub alone : (set c : ℕ) → c < n → missing (bit_or set (2 ^ c)) (get_or lists c []) ≡ missing set (get_or lists c [])
 
 -- ---- the two numbers of NEB's margin, for all candidates
@@ -95,7 +95,7 @@ pub record IsTable (counts : Counts) : Type 0 where
   pub wide : length counts.ahead ≡ counts.n
   pub square : All (λ row. length row ≡ counts.n) counts.ahead
 
--- whoever is first on more ballots than a loser has without it ahead, by the row of the loser: the winners of true NEBs
+-- everyone who is first on more ballots than a loser has without it ahead, by the row of the loser: the winners of true NEBs
 abbrev pub winners_in : List ℕ → List ℕ → List ℕ
 winners_in firsts row =
     filter (λ w. nat_lt (get_or row w 0) (get_or firsts w 0)) (candidates (length firsts))

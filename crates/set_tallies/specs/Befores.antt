@@ -11,7 +11,7 @@ before_after seen (d ∷ rest) c =
 abbrev pub before : List ℕ → ℕ → Option ℕ
 before ranking c = before_after 0 ranking c
 
--- there is such a set, and nobody of the given one is in it
+-- there is this set, and nobody of the given one is in it
 abbrev pub is_missed : ℕ → Option ℕ → Bool
 is_missed set None = false
 is_missed set (Some other) = misses set other

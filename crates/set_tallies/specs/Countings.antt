@@ -1,4 +1,4 @@
--- Ballots that are counted as they come: no ranking is kept. The rankings that a counting counts are told by its course, which no code has.
+-- Ballots that are counted as they come: no ranking is kept. The rankings of a counting are known by its course, which no code has.
 use Rattle.std.specs.Prelude.{◌≡◌, ℕ, ◌<◌, ◌≤◌, ◌^◌, List, [], ◌∷◌, ◌++◌, length, All, bit_or}
 use Rattle.irv_base.specs.declared.limits.TheConstants.{MOST_RECORDS}
 use Rattle.set_tallies.specs.Sums.{IsCountOf}

@@ -14,7 +14,7 @@ others n set = everyone n - set
 abbrev pub row_of : ℕ → ℕ → ℕ
 row_of n set = if nat_lt set (2 ^ (n - 1)) then set else others n set
 
--- of the two sets of a row the one that has the candidate
+-- of the two sets of a row, the one that has the candidate
 abbrev pub having : ℕ → ℕ → ℕ → ℕ
 having n row c = if has row c then row else others n row
 
@@ -25,7 +25,7 @@ pub record IsHalved (n : ℕ) (halves : Halves) : Type 0 where
   pub few : n ≤ MOST_SUMMED
   pub long : length halves.table.items ≡ n * 2 ^ (n - 1)
 
--- nobody stands before itself, so the number of a set and a candidate is that of the set with the candidate
+-- nobody comes before itself, so the number of a set and a candidate is that of the set with the candidate
 abbrev pub half_at : Halves → ℕ → ℕ → ℕ
 half_at halves set c =
     slice_index halves.table.items (row_of halves.n (bit_or set (2 ^ c)) * halves.n + c)

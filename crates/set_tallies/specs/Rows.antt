@@ -1,6 +1,8 @@
--- The rows of tallies that are kept, each under its set: that of each set is the row of that set and of no other. Which are kept isn't told.
-use Rattle.std.specs.Prelude.{◌≡◌, ◌==◌, ℕ, ◌≤◌, Option, IfSome, List, map, if◌then◌else◌}
-use Rattle.std.specs.HashMap.{get_by, hash_map_len}
+-- The rows of tallies that are kept, each under its set: that of each set is the row of that set and of no other. Which rows are kept is
+-- unknown.
+use Rattle.std.specs.Prelude.{◌≡◌, ℕ, ◌≤◌, Option, IfSome, List, map, if◌then◌else◌}
+use Rattle.std.specs.BTreeMap.{get, btree_map_len}
+use Rattle.std.specs.Ordering.{nat_cmp}
 use Rattle.irv_base.specs.Candidates.{candidates, has}
 use Rattle.set_tallies.specs.Bags.{Kept, Counts, AreFilledFrom, votes_at}
 use Rattle.set_tallies.specs.declared.rows.Rows.{Rows}
@@ -13,11 +15,11 @@ votes_of bag set = map (λ c. if has set c then votes_at bag set c else 0) (cand
 -- each row is that of its set
 abbrev pub AreRows : Kept → Rows → Type 0
 AreRows bag rows = (set : ℕ) →
-    IfSome (get_by (λ other. set == other) rows.by_set) (λ votes. votes.items ≡ votes_of bag set)
+    IfSome (get nat_cmp rows.by_set set) (λ votes. votes.items ≡ votes_of bag set)
 
 -- there are not too many
 abbrev pub AreFew : Rows → Type 0
-AreFew rows = hash_map_len rows.by_set ≤ MOST_ROWS
+AreFew rows = btree_map_len rows.by_set ≤ MOST_ROWS
 
 -- what tallies keep
 pub record AreTallies (bag : Kept) (counts : Counts) (summed : Option Kept) (kept : Rows) : Type 0 where

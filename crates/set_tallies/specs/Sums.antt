@@ -1,6 +1,6 @@
--- A table has a number for each set of candidates and each candidate, set by set, the candidates side by side: that of the set and
--- the candidate c of n stands at the place set * n + c. First it says how many ballots have just that set before c, then, summed,
--- how many have c with nobody of it before.
+-- A table has a number for each set of candidates and each candidate, set by set, the candidates next to each other: that of the set and
+-- the candidate c of n is at the place set * n + c. First it says how many ballots have exactly that set before c; once summed, how many
+-- have c with nobody of it before.
 use Rattle.std.specs.Prelude.{◌≡◌, ℕ, ◌+◌, ◌*◌, ◌<◌, ◌≤◌, ◌^◌, List, [], length, map, sum_by, count_by, slice_index, get_or, if◌then◌else◌}
 use Rattle.irv_base.specs.Candidates.{candidates}
 use Rattle.set_tallies.specs.Bags.{Kept, AreEntries, votes_at, misses, missing}
@@ -15,7 +15,7 @@ use Rattle.set_tallies.specs.declared.bag.Votes.TheVariants.{Summed, Halved, Lis
 abbrev pub column : ℕ → ℕ → List ℕ → ℕ → List ℕ
 column n k table c = map (λ set. slice_index table (set * n + c)) (candidates (2 ^ k))
 
--- the sum of what stands in the column at the places of those sets that have nobody of this set
+-- the sum of what is in the column at the places of those sets that have nobody of this set
 abbrev pub apart : ℕ → List ℕ → ℕ
 apart set numbers =
     sum_by (λ other. if misses set other then slice_index numbers other else 0)

@@ -10,8 +10,8 @@ use irv_base::{Candidate, Memory};
 use std::alloc::Global;
 use std::marker::Model;
 
-/// The two numbers of NEB's margin (RAIRE, section 3), for all candidates: on how many ballots one is first, and on how many
-/// one is ahead of another. Beside them it lists the winners of the true NEBs, who are few where a contest is close.
+/// The two numbers of NEB's margin (RAIRE, section 3), for all candidates: on how many ballots one is first, and on how many one is ahead
+/// of another. It also lists the winners of the true NEBs, who are few if a contest is close.
 #[derive(Drop)]
 pub struct Ahead {
     n: u32,

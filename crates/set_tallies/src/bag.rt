@@ -1,4 +1,8 @@
 // The records of a contest.
+//
+// One table answers tallies, first preferences and who is ahead of whom. Up to `ALWAYS_SUMMED` candidates it is summed over all sets at
+// once, which takes no longer than making entries. With more candidates a bag begins with entries: the table of twenty has 21 megabytes
+// and takes some 0.2 s, while a search of a few strong candidates asks for some 400 rows, each counted in about a microsecond.
 ghost use Rattle.std.specs.Prelude.{◌≡◌, ℕ, ◌<◌, ◌≤◌, ◌^◌, [], map, get_or, length, count_by, All, IfOk, IfSome, IfNone, List};
 ghost use Rattle.irv_base.specs.declared.limits.TheConstants.{FEWEST_CANDIDATES, ROOM, MOST_RECORDS};
 ghost use Rattle.set_tallies.specs.Bags.{AreEntries, IsOf, missing, votes_at};
@@ -17,14 +21,14 @@ use std::alloc::Global;
 use std::marker::Model;
 use std::thread::Threads;
 
-/// So many candidates have the sums over all sets from the start: they are made as soon as entries would be.
+/// Up to this many candidates have the sums over all sets from the start: they are made as soon as entries would be.
 pub const ALWAYS_SUMMED: u32 = 15;
 
-/// So have more candidates where no more rows than this would be counted from entries before halved sums are made (`rows_in_time`).
+/// More candidates have them too if no more rows than this would be counted from entries before halved sums are made (`rows_in_time`).
 pub const FEWEST_ROWS: u64 = 128;
 
-/// What is kept of the records: the sums over all sets, in one of two forms, or of each candidate the different sets of those who stand before it on
-/// a ballot, each with the number of such ballots.
+/// What is kept of the records: the sums over all sets, in one of two forms; or, for each candidate, the different sets of those who come
+/// before it on a ballot, each with the number of these ballots.
 #[derive(Drop)]
 pub enum Votes {
     /// The sums over all sets.
@@ -35,10 +39,10 @@ pub enum Votes {
     Listed(Vec<Entries>),
 }
 
-/// The records of a contest, whatever their order.
+/// The records of a contest, in any order.
 ///
-/// It knows of each set of candidates and each candidate how many ballots have the candidate with nobody of the set before: on a
-/// ballot a candidate is the first of a set exactly where it is in the set and the ballot has it with nobody of the set before it.
+/// It knows for each set of candidates and each candidate how many ballots have the candidate with nobody of the set before: on a ballot
+/// a candidate is the first of a set exactly if it is in the set and the ballot has it with nobody of the set before it.
 #[derive(Drop)]
 pub struct Bag {
     n: u32,
@@ -129,7 +133,7 @@ fn sums_of(alloc: Global, n: u32, lists: &[Entries]) -> Result<Votes, Memory>
 }
 
 impl Bag {
-    /// The bag of these records, of a contest with `n` candidates, counted by at most so many workers.
+    /// The bag of these records, of a contest with `n` candidates, counted by at most this many workers.
     pub fn of<R: AllocGlobal + Threads + Sync>(
         rt: &R,
         n: u32,
@@ -163,7 +167,7 @@ impl Bag {
         })
     }
 
-    /// The same bag with sums over all sets, where it has none and has no more candidates than can have them.
+    /// The same bag with sums over all sets, if it has none and has no more candidates than can have them.
     pub(crate) fn summed(&self, alloc: Global) -> Result<Option<Bag>, Memory>
         ensures { IfOk result (λ summed. IfSome summed (λ bag. bag ≡ self.now)) }
     {

@@ -1,21 +1,25 @@
-// What rows of tallies cost, beside the sums over all sets.
+// What rows of tallies cost, compared with the sums over all sets.
+//
+// Which form a contest should have shows in what its rows have taken. A worker counts as many rows as take at most half of the time of
+// the sums, then gives up as for want of memory. The sums are made once, and all workers begin again with them. No answer depends on
+// this. A limit of nodes would say less, since the time of a node depends on the number of entries.
 ghost use Rattle.std.specs.Prelude.{◌≤◌};
 ghost use Rattle.set_tallies.specs.declared.sums.TheConstants.{MOST_SUMMED};
 
 use crate::entries::Entries;
 use crate::entry::Entry;
 
-/// So many entries are gone through for each set and candidate before the sums over all sets are made. For each set and candidate the sums
-/// take as long as twice as many entries, so that rows take at most half of the time of sums that come after all.
+/// This many entries are read for each set and candidate before the sums over all sets are made. For each set and candidate the sums take
+/// as long as twice as many entries, so rows take at most half of the time of sums that are made after all.
 pub const ENTRIES_A_NUMBER: u64 = 16;
 
-/// So many are gone through where the sums are large: rows then take at most about as long as the sums, and most searches end before these.
+/// This many are read if the sums are large: rows then take at most about as long as the sums, and most searches end before these.
 pub const ENTRIES_A_LARGE_NUMBER: u64 = 48;
 
-/// From so many candidates on sums that aren't halved are large: they take some 40 megabytes or more.
+/// From this many candidates on, sums that aren't halved are large: they take some 40 megabytes or more.
 pub const FEWEST_LARGE: u32 = 19;
 
-/// Whatever its entries are, a row takes as long as so many more.
+/// Besides its entries, a row takes as long as this many more.
 pub const ENTRIES_A_ROW: u64 = 2048;
 
 /// How many entries were noted of all candidates.
@@ -45,7 +49,7 @@ fn entries_a_number(n: u32, halved: bool) -> u64 {
     }
 }
 
-/// How many rows of tallies are counted from so many entries before the sums over all sets are made, which are halved or not.
+/// How many rows of tallies are counted from this many entries before the sums over all sets are made, which are halved or not.
 pub fn rows_in_time(n: u32, entries: u64, halved: bool) -> u64
     requires { n ≤ MOST_SUMMED }
 {

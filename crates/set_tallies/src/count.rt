@@ -1,4 +1,8 @@
-// Counting the ballots by the candidates who stand before another.
+// Counting the ballots by the candidates who come before another.
+//
+// One pass over the ballots notes an entry for each preference. For each candidate some entries are at hand, each at a place that depends
+// on its set: a ballot with the same set is counted there. So few entries are left to sort. An author of a file can make each miss; then
+// all are sorted, as without places at hand.
 ghost use Rattle.std.specs.Prelude.{◌≡◌, ◌≤◌, ◌<◌, [], All, IsTrue, length, map, replicate, IfOk, OnOk};
 ghost use Rattle.irv_base.specs.Candidates.{is_distinct};
 ghost use Rattle.irv_base.specs.declared.limits.TheConstants.{ROOM, MOST_RECORDS};
@@ -10,7 +14,7 @@ use crate::entry::Entry;
 use irv_base::{Candidate, MOST_RECORDS, Memory, Rankings};
 use std::alloc::Global;
 
-// Of each candidate two to this power entries are at hand.
+// For each candidate two to this power entries are at hand.
 const HAND_BITS: u32 = 8;
 
 // Sets that are numbers apart by little come to places far apart by it: it is 2 ^ 32 by the golden ratio.
@@ -32,7 +36,7 @@ fn place_of(before: u32) -> usize {
     (before.wrapping_mul(SPREAD) >> (u32::BITS - HAND_BITS)) as usize
 }
 
-// Counts one more ballot that has just this set before the candidate: in the entry at hand where that is of the set, else in a new
+// Counts one more ballot that has exactly this set before the candidate: in the entry at hand if that is of the set, otherwise in a new
 // one, which is at hand from then on.
 fn put(entries: &mut Vec<Entry>, before: u32) -> Result<(), Memory>
     ensures { OnOk result (HasOneMore before entries.old.items entries.new.items) }
@@ -50,7 +54,7 @@ fn put(entries: &mut Vec<Entry>, before: u32) -> Result<(), Memory>
     Ok(())
 }
 
-// Notes for each candidate of the ranking who stands before it.
+// Notes for each candidate of the ranking who comes before it.
 fn note(lists: &mut [Vec<Entry>], n: u32, ranking: &[Candidate]) -> Result<(), Memory>
     requires each { length lists.old ≡ n }
     requires room { n ≤ ROOM }
@@ -114,7 +118,7 @@ pub fn all_joined(alloc: Global, noted: Vec<Vec<Entry>>) -> Result<Vec<Entries>,
     Ok(lists)
 }
 
-/// The entries of each of `n` candidates in these rankings, for each set of those who stand before the candidate one or more.
+/// The entries of each of `n` candidates in these rankings, for each set of those who come before the candidate one or more.
 pub fn noted(alloc: Global, n: u32, rankings: &Rankings) -> Result<Vec<Vec<Entry>>, Memory>
     requires room { n ≤ ROOM }
     requires below { All (λ ranking. All (λ c. c < n) ranking) rankings.now }

@@ -33,7 +33,7 @@ impl Model for Counted {
 }
 
 impl Counted {
-    /// The records, of a contest with `n` candidates, counted by at most so many workers.
+    /// The records, of a contest with `n` candidates, counted by at most this many workers.
     pub fn of<R: AllocGlobal + Threads + Sync>(
         rt: &R,
         n: u32,
@@ -74,8 +74,8 @@ impl Counted {
         Tallies::new(self.alloc, &self.bag, &self.ahead, true)
     }
 
-    /// The tallies for one of several workers. Once as many rows were counted as are worth it before the sums over all sets are made, it ends as for
-    /// want of memory: then whoever has sent the workers has them begin anew with what is `summed`, and the sums are made once for all.
+    /// The tallies for one of several workers. Once it has counted as many rows as pay before the sums over all sets are made, it ends as
+    /// for want of memory. Then the caller has the workers begin again with what is `summed`, and the sums are made once for all.
     pub fn tallies_for_worker(&self) -> Result<Tallies<'_>, Memory>
         ensures bag { IfOk result (λ tallies. tallies.bag ≡ self.now.bag) }
         ensures counts { IfOk result (λ tallies. tallies.counts ≡ self.now.counts) }
@@ -83,7 +83,7 @@ impl Counted {
         Tallies::new(self.alloc, &self.bag, &self.ahead, false)
     }
 
-    /// The same records with the sums over all sets, where they have none and there are few enough candidates for them.
+    /// The same records with the sums over all sets, if they have none and there are few enough candidates for them.
     pub fn summed(&self) -> Result<Option<Counted>, Memory>
         ensures { IfOk result (λ summed. IfSome summed (λ counted. counted.bag ≡ self.now.bag)) }
     {

@@ -71,7 +71,7 @@ impl Counting {
         self.records as usize
     }
 
-    /// Puts a ranking without candidates last. More than `MOST_RECORDS` are want of memory.
+    /// Puts a ranking without candidates last. For more than `MOST_RECORDS` the answer is `Memory`.
     pub fn begin(&mut self) -> Result<(), Memory>
         ensures candidates { self.new.n ≡ self.old.n }
         ensures begun { OnOk result (self.new.rankings ≡ self.old.rankings ++ [] ∷ []) }
@@ -101,7 +101,7 @@ impl Counting {
         course::lengthen(&mut self.course, c);
     }
 
-    /// Puts other rankings of the same candidates last, in their order. More than `MOST_RECORDS` in all are want of memory.
+    /// Puts other rankings of the same candidates last, in their order. For more than `MOST_RECORDS` in all the answer is `Memory`.
     pub fn append(&mut self, others: &Counting) -> Result<(), Memory>
         requires { others.now.n ≡ self.now.n }
         ensures candidates { self.new.n ≡ self.old.n }

@@ -15,7 +15,7 @@ pub enum Course {
     Begun(Snapshot<Course>),
     /// A candidate came at the end of the last ranking.
     Lengthened(Snapshot<Course>, Candidate),
-    /// Others came behind them, by a course of their own.
+    /// Others came after them, by a course of their own.
     Appended(Snapshot<Course>, Snapshot<Snapshot<Course>>),
 }
 
@@ -40,7 +40,7 @@ pub fn lengthen(course: &mut Snapshot<Course>, c: Candidate)
     *course = Snapshot::of(&Course::Lengthened(taken(course), c));
 }
 
-/// Others come behind them.
+/// Others come after them.
 pub fn append(course: &mut Snapshot<Course>, others: &Snapshot<Course>)
     ensures { rankings_by course.new.value
         ≡ rankings_by course.old.value ++ rankings_by others.now.value }

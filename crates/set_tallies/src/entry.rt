@@ -1,10 +1,10 @@
 // What is kept of the records of a contest, for one candidate.
 
-/// A set of candidates, and on how many ballots just they stand before the candidate.
+/// A set of candidates, and on how many ballots exactly these come before the candidate.
 #[derive(Clone, Copy)]
 pub struct Entry {
     /// The number of the set.
     pub before: u32,
-    /// On how many ballots just its candidates stand before the one.
+    /// On how many ballots exactly its candidates come before the one.
     pub count: u32,
 }

@@ -12,18 +12,18 @@ use crate::table::place;
 use irv_base::{CandSet, Candidate, Memory};
 use std::alloc::Global;
 
-/// The sums are halved where no candidate is on more ballots than this: 16 bits count no more.
+/// The sums are halved if no candidate is on more ballots than this: 16 bits count no more.
 pub const MOST_HALVED: u32 = 65_535;
 
-/// The sums over the sets of so many candidates, the first, are made while entries are counted: the others' are then made for sixteen
-/// numbers that stand side by side.
+/// The sums over the sets of the first candidates, this many, are made while entries are counted. Then those of the others are made for
+/// sixteen numbers at a time.
 pub const LOW_CANDIDATES: u32 = 4;
 
-// So many sets these have.
+// This many sets these have.
 const LOW_SETS: u32 = 16;
 
-/// For each set of `n` candidates without the last, and each candidate: how many ballots have the candidate with nobody before of the set, if
-/// the candidate is in it, or else of the set's complement. The candidates stand side by side.
+/// For each set of `n` candidates without the last, and each candidate: how many ballots have the candidate with nobody before who is in
+/// the set, if the candidate is in it, and otherwise in the set's complement. The numbers of a row are next to each other.
 #[derive(Drop)]
 pub struct Halves {
     /// How many candidates there are.
@@ -54,7 +54,7 @@ fn row_of(n: u32, set: u32) -> u32
     }
 }
 
-// Of the two sets of a row the one that has the candidate.
+// Of the two sets of a row, the one that has the candidate.
 fn having(n: u32, row: u32, c: Candidate) -> u32
     requires few { n ≤ MOST_SUMMED }
     requires below { row < 2 ^ n }
@@ -68,7 +68,7 @@ fn having(n: u32, row: u32, c: Candidate) -> u32
     }
 }
 
-// Counts so many ballots that have just this set before the candidate, for each set of the first candidates that has nobody of it.
+// Counts this many ballots that have exactly this set before the candidate, for each set of the first candidates that has nobody of it.
 fn count_low(numbers: &mut [u32], n: u32, before: u32, count: u32)
     requires few { (LOW_CANDIDATES ≤ n) × (n ≤ MOST_SUMMED) }
     requires long { length numbers.old ≡ 2 ^ n }

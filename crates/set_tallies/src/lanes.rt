@@ -7,7 +7,7 @@ ghost use Rattle.set_tallies.specs.Listings.{paired};
 
 use std::simd::prelude::*;
 
-/// So many entries are looked at side by side.
+/// This many entries are looked at at once.
 pub const LANES: usize = 8;
 
 // The numbers of those entries that have nobody of the set, and 0 for the others.
@@ -21,7 +21,7 @@ fn counts_missing(sets: u32x8, counts: u32x8, set: u32) -> u32x8
         .select(counts, u32x8::splat(0))
 }
 
-// On how many ballots of the first `blocks * LANES` entries nobody of the set stands before.
+// On how many ballots of the first `blocks * LANES` entries nobody of the set comes before.
 #[inline(always)]
 fn missing_in_blocks(sets: &[u32], counts: &[u32], set: u32, blocks: usize) -> u32
     requires same { length counts.now ≡ length sets.now }
@@ -41,7 +41,7 @@ fn missing_in_blocks(sets: &[u32], counts: &[u32], set: u32, blocks: usize) -> u
     votes.strict_reduce_sum()
 }
 
-/// On how many ballots of the entries with these sets and numbers nobody of the set stands before.
+/// On how many ballots of the entries with these sets and numbers nobody of the set comes before.
 pub fn missing(sets: &[u32], counts: &[u32], set: u32) -> u32
     requires same { length counts.now ≡ length sets.now }
     requires most { total (paired sets.now counts.now) ≤ MOST_RECORDS }

@@ -8,7 +8,7 @@ ghost use Rattle.set_tallies.specs.declared.rows.TheConstants.{MOST_ROWS};
 ghost use Rattle.set_tallies.specs.declared.shares.TheConstants.{FEWEST_IN_A_SHARE};
 ghost use Rattle.set_tallies.specs.declared.sums.TheConstants.{MOST_SUMMED};
 
-/// A bag stands for its records whatever their order.
+/// A bag is the same for its records in any order.
 pub fn order_is_free()
     ensures { OrderIsFree }
 {}

@@ -1,11 +1,14 @@
 // The rows of tallies that are kept.
+//
+// When there are too many rows all of them are dropped: dropping the oldest would need an order that nothing else uses. The rows are in the order of
+// their sets, since whoever writes an assertion file chooses the sets that are asked for, and could make hashes of them collide.
 ghost use Rattle.std.specs.Prelude.{◌≡◌, IfSome, OnErr};
 ghost use Rattle.set_tallies.specs.Bags.{Kept};
 ghost use Rattle.set_tallies.specs.Rows.{AreFew, AreRows, votes_of};
 
 use irv_base::Memory;
 use std::alloc::Global;
-use std::collections::HashMap;
+use std::collections::BTreeMap;
 
 /// The most rows that are kept.
 pub const MOST_ROWS: usize = 262_143;
@@ -14,7 +17,7 @@ pub const MOST_ROWS: usize = 262_143;
 #[derive(Drop)]
 pub struct Rows {
     /// The row of each set.
-    pub by_set: HashMap<u32, Vec<u32>>,
+    pub by_set: BTreeMap<u32, Vec<u32>>,
 }
 
 impl Rows {
@@ -24,7 +27,7 @@ impl Rows {
         ensures rows { (bag : Kept) → AreRows bag result }
     {
         Rows {
-            by_set: HashMap::new(alloc),
+            by_set: BTreeMap::new(alloc),
         }
     }
 
@@ -39,7 +42,7 @@ impl Rows {
         }
     }
 
-    /// Keeps the row of a set. Where there are as many as are ever kept, they are dropped first.
+    /// Keeps the row of a set. If there are as many as are ever kept, they are dropped first.
     pub fn keep(&mut self, set: u32, votes: Vec<u32>) -> Result<(), Memory>
         requires { AreFew self.old }
         ensures few { AreFew self.new }

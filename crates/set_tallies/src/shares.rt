@@ -15,8 +15,8 @@ use std::thread::Threads;
 /// Fewer records are counted sooner than a thread is started for them.
 pub const FEWEST_IN_A_SHARE: usize = 4096;
 
-// How many records each worker counts but the last, who has those that are left. They are no fewer than the sets of candidates: a
-// table of its own takes as long to be made and added up as so many records take to count.
+// How many records each worker counts, except the last, who has those that are left. They are no fewer than the sets of candidates: a
+// table of its own takes as long to be made and added up as this many records take to count.
 fn share_size(n: u32, records: usize, workers: u32) -> usize
     requires few { n ≤ MOST_SUMMED }
     requires workers { 1 ≤ workers }
@@ -81,7 +81,7 @@ fn shares<R: AllocGlobal + Threads + Sync>(
     Ok(shares)
 }
 
-/// The ballots with these rankings, counted by at most so many workers.
+/// The ballots with these rankings, counted by at most this many workers.
 pub fn counted<R: AllocGlobal + Threads + Sync>(
     rt: &R,
     n: u32,

@@ -64,7 +64,7 @@ pub fn sum_apart(table: &mut [u32], n: u32, k: u32)
 }
 
 impl Sums {
-    /// The sums over the ballots with these rankings, counted by at most so many workers.
+    /// The sums over the ballots with these rankings, counted by at most this many workers.
     pub fn of<R: AllocGlobal + Threads + Sync>(
         rt: &R,
         n: u32,

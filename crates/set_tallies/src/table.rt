@@ -29,7 +29,7 @@ pub fn place(n: u32, set: u32, c: Candidate) -> usize
     set as usize * n as usize + c.index()
 }
 
-/// Counts so many ballots more that have just this set before the candidate.
+/// Counts this many more ballots that have exactly this set before the candidate.
 pub fn add(table: &mut [u32], n: u32, set: u32, c: Candidate, count: u32)
     requires few { n ≤ MOST_SUMMED }
     requires long { length table.old ≡ n * 2 ^ n }

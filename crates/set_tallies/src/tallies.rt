@@ -19,8 +19,8 @@ use std::marker::Model;
 
 /// The tallies of the sets of candidates, over the records of a bag.
 ///
-/// Where the bag has the sums over all sets, rows are read from them. Else a row that was counted is kept (`Rows` drops all at `MOST_ROWS`);
-/// once as many were counted as are worth it (`rows_in_time`), the sums are made, or the tallies give up.
+/// If the bag has the sums over all sets, rows are read from them. Otherwise a row that was counted is kept (`Rows` drops all at
+/// `MOST_ROWS`). Once as many were counted as pay (`rows_in_time`), the sums are made, or the tallies give up.
 ///
 /// To a contract the tallies are what they are made from, the bag and the two numbers of NEB's margin.
 #[derive(Drop)]
@@ -60,7 +60,7 @@ fn with_sums<'b>(bag: &'b Bag, summed: &'b Option<Bag>) -> &'b Bag
     }
 }
 
-// The sums over all sets, where the bag has them.
+// The sums over all sets, if the bag has them.
 fn sums_in(bag: &Bag) -> Option<&Sums>
     ensures { IfSome result (λ sums. AreSums bag.now sums.now) }
 {
@@ -70,7 +70,7 @@ fn sums_in(bag: &Bag) -> Option<&Sums>
     }
 }
 
-// The sums in halves, where the bag has these.
+// The sums in halves, if the bag has these.
 fn halves_in(bag: &Bag) -> Option<&Halves>
     ensures { IfSome result (λ halves. AreHalves bag.now halves.now) }
 {
@@ -80,7 +80,7 @@ fn halves_in(bag: &Bag) -> Option<&Halves>
     }
 }
 
-// How many rows are counted before the sums over all sets are made. Where they are made, or can't be, there is no limit.
+// How many rows are counted before the sums over all sets are made. If they are made, or can't be, there is no limit.
 fn rows_before_sums(bag: &Bag) -> u64 {
     match bag.kept() {
         Votes::Listed(lists) if bag.candidates() <= MOST_SUMMED => rows_in_time(
@@ -122,7 +122,7 @@ fn tallied(alloc: Global, n: u32, row: &[u32], s: CandSet) -> Result<Vec<u32>, M
 }
 
 impl<'b> Tallies<'b> {
-    /// The tallies over the records of the bag, which `ahead` was filled from. Once as many rows were counted as are worth it before the sums over
+    /// The tallies over the records of the bag, which `ahead` was filled from. Once as many rows were counted as pay before the sums over
     /// all sets are made (`rows_in_time`), tallies that are alone make these, and others give up as for want of memory.
     pub fn new(
         alloc: Global,
@@ -171,8 +171,8 @@ impl<'b> Tallies<'b> {
         self.ahead
     }
 
-    /// The tallies of the candidates in the set `s`, lent, where they are at hand: one number for each candidate. What stands there for
-    /// those outside isn't told.
+    /// The tallies of the candidates in the set `s`, lent if they are at hand: one number for each candidate. The numbers of those
+    /// outside the set are unknown.
     pub fn row(&self, s: CandSet) -> Option<&[u32]>
         requires { s < 2 ^ self.now.bag.n }
         ensures tallies { IfSome result (λ row. (records : List (List ℕ)) → IsOf self.now.bag records
@@ -185,7 +185,7 @@ impl<'b> Tallies<'b> {
         }
     }
 
-    // Where no more rows may be counted, tallies that are alone make the sums, in place of the rows, and others give up.
+    // If no more rows may be counted, tallies that are alone make the sums in place of the rows, and others give up.
     fn go_on(&mut self) -> Result<(), Memory>
         ensures { self.new ≡ self.old }
     {

@@ -50,13 +50,13 @@ StandingBySets =
     find (λ order. not (list_any (λ a. refutes a order) list)) (alternative_orders n winner)
     ≡ first_by_sets n winner (passes list)
 
--- a list of assertions covers where there is no walk that it lets pass
+-- a list of assertions covers exactly if there is no walk that it lets pass
 abbrev pub CoversBySets : Type 0
 CoversBySets =
     (n winner : ℕ) (list : List Assertion) →
     (IsTrue (covers n winner list) ↔ (first_by_sets n winner (passes list) ≡ None))
 
--- the sets that stand are those of the suffixes that aren't whole, elect another candidate and stand
+-- the sets that are reached are those of the suffixes that aren't whole, elect another candidate and aren't refuted
 abbrev pub StandingIs : Type 0
 StandingIs =
     (n winner : ℕ) (list : List Assertion) (set : ℕ) →
@@ -73,32 +73,32 @@ CertificateStands =
     ≡ standing n winner
     (λ set c. nat_lt (step n records set c) (best_margin n winner (low n records)))
 
--- nobody's set doesn't stand, nor that of the winner alone, nor that of all candidates
+-- nobody's set isn't reached, nor that of the winner alone, nor that of all candidates
 abbrev pub StandingAreFew : Type 0
 StandingAreFew =
     (n winner : ℕ) (goes : ℕ → ℕ → Bool) → winner < n → 1 < n →
     length (standing n winner goes) ≤ 2 ^ n - 3
 
--- the walk into each set once answers by the sets that count: `Spent` exactly where they are more than the budget has
+-- the walk into each set once answers by the sets that count: `Spent` exactly if they are more than the budget has
 abbrev pub WalkIs : Type 0
 WalkIs =
     (n winner sets : ℕ) (goes : ℕ → ℕ → Bool) → 0 < n →
     walked (dives n winner sets goes) ≡ first_within n winner sets goes
 
--- what counts stands, and where no order walks what stands counts
+-- what counts is reached, and if no order walks what is reached counts
 abbrev pub CountedStand : Type 0
 CountedStand =
     (n winner : ℕ) (goes : ℕ → ℕ → Bool) →
     (length (counted n winner goes) ≤ length (standing n winner goes))
     × (first_by_sets n winner goes ≡ None → counted n winner goes ≡ standing n winner goes)
 
--- so many sets are never spent
+-- this many sets are never spent
 abbrev pub NeverSpent : Type 0
 NeverSpent =
     (n winner sets : ℕ) (goes : ℕ → ℕ → Bool) → winner < n → 1 < n → 2 ^ n - 3 ≤ sets →
     first_within n winner sets goes ≡ Ok (first_by_sets n winner goes)
 
--- a certificate is covered within the sets that stand below its margin
+-- a certificate is covered within the sets that are reached below its margin
 abbrev pub CertificateCovered : Type 0
 CertificateCovered =
     (n winner sets : ℕ) (records : List (List ℕ)) →
@@ -116,7 +116,7 @@ LeastIsBest =
     ((order_by_sets n winner (step n records) margin ≡ None)
     ↔ (margin < best_by_sets n winner (step n records)))
 
--- rising to the best margin, a walk within a smaller one counts no more than the sets that stand below the best
+-- rising to the best margin, a walk within a smaller one counts no more than the sets that are reached below the best
 abbrev pub SearchCounts : Type 0
 SearchCounts =
     (n winner margin : ℕ) (records : List (List ℕ)) →
@@ -126,7 +126,7 @@ SearchCounts =
     (standing n winner
     (λ set c. nat_lt (step n records set c) (best_margin n winner (low n records))))
 
--- and where no step from these sets, or to a last candidate, lies between the two margins, it counts them all
+-- and if no step from these sets, or to a last candidate, lies between the two margins, it counts them all
 abbrev pub SearchCountsAll : Type 0
 SearchCountsAll =
     (n winner margin : ℕ) (records : List (List ℕ)) → winner < n → 1 < n →

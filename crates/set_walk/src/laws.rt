@@ -6,7 +6,7 @@ pub fn low_by_steps()
     ensures { LowBySteps }
 {}
 
-/// Where it raises the low, the refuter is the step's.
+/// If it raises the low, the refuter is the step's.
 pub fn refuter_by_steps()
     ensures { RefuterBySteps }
 {}
@@ -26,22 +26,22 @@ pub fn certificate_by_sets()
     ensures { CertificateBySets }
 {}
 
-/// The least order that a list of assertions lets stand is found greedily.
+/// The least order that a list of assertions doesn't refute is found greedily.
 pub fn standing_by_sets()
     ensures { StandingBySets }
 {}
 
-/// A list of assertions covers where no walk passes it.
+/// A list of assertions covers exactly if no walk passes it.
 pub fn covers_by_sets()
     ensures { CoversBySets }
 {}
 
-/// The sets that stand are those of suffixes that do.
+/// The sets that are reached are those of suffixes that aren't refuted.
 pub fn standing_is()
     ensures { StandingIs }
 {}
 
-/// The sets that stand beside a certificate are those below its margin.
+/// The sets that are reached past a certificate are those below its margin.
 pub fn certificate_stands()
     ensures { CertificateStands }
 {}
@@ -51,12 +51,12 @@ pub fn standing_are_few()
     ensures { StandingAreFew }
 {}
 
-/// The walk into each set once is spent exactly where more sets count than the budget has, and gives the first order else.
+/// The walk into each set once is spent exactly if more sets count than the budget has, and otherwise gives the first order.
 pub fn walk_is()
     ensures { WalkIs }
 {}
 
-/// What counts stands, and where no order walks what stands counts.
+/// What counts is reached, and if no order walks, what is reached counts.
 pub fn counted_stand()
     ensures { CountedStand }
 {}
@@ -66,7 +66,7 @@ pub fn never_spent()
     ensures { NeverSpent }
 {}
 
-/// A certificate is called covered within the sets that stand below its margin.
+/// A certificate is called covered within the sets that are reached below its margin.
 pub fn certificate_covered()
     ensures { CertificateCovered }
 {}
@@ -76,12 +76,12 @@ pub fn least_is_best()
     ensures { LeastIsBest }
 {}
 
-/// A walk within a margin below the best counts no more than the sets that stand below the best.
+/// A walk within a margin below the best counts no more than the sets that are reached below the best.
 pub fn search_counts()
     ensures { SearchCounts }
 {}
 
-/// Where no step from these sets lies between the two margins, it counts just those.
+/// If no step from these sets lies between the two margins, it counts exactly those.
 pub fn search_counts_all()
     ensures { SearchCountsAll }
 {}

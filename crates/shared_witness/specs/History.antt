@@ -11,7 +11,7 @@ use Rattle.shared_witness.specs.Moment.{Moment, after_take, after_look, after_po
 abbrev pub seated : Terms → Moment
 seated t = record { ticket = 0; bound = t.first; views = replicate t.workers (new_view 1) }
 
--- the moment after a step of the seat that an event names, or none where the seat may not make it
+-- the moment after a step of the seat that an event names, or none if the seat may not make it
 abbrev pub after_event : Terms → Moment → Event → Option Moment
 after_event t m (Take k) =
     option_and_then (λ v. if v.ends == 0 && nat_lt 0 v.may then Some (after_take t m k v) else None)

@@ -56,7 +56,7 @@ JoinKeeps =
 abbrev pub TicketIsSmall : Type 0
 TicketIsSmall = (t : Terms) (m : Moment) → RaceRule t m → m.ticket ≤ t.pieces + t.workers
 
--- the piece of a take is one that no seat took before, and none is left exactly where all were taken
+-- the piece of a take is one that no seat took before, and none is left exactly if all were taken
 abbrev pub TakeIsFresh : Type 0
 TakeIsFresh =
     (t : Terms) (m : Moment) → RaceRule t m →
@@ -70,7 +70,7 @@ AllJoined =
     slice_get m.views k ≡ Some v → v.ends + v.may ≡ t.workers →
     (m.bound ≡ min t.first v.posted) × EachOnce (min m.ticket t.pieces) v.taken
 
--- where the pieces that the seats took are all pieces, each once, some seat took each
+-- if the pieces that the seats took are all pieces, each once, some seat took each
 abbrev pub EachHasTaker : Type 0
 EachHasTaker =
     (n : ℕ) (views : List View) → EachOnce n (taken_pieces views) → (p : ℕ) → p < n →
@@ -94,7 +94,7 @@ JoiningLosesNothing =
 
 -- ---- the words and the views show a race, and each step is an event of it
 
--- where each worker has a new seat, the race is at its start
+-- if each worker has a new seat, the race is at its start
 abbrev pub StartIsShown : Type 0
 StartIsShown =
     (t : Terms) (values : List ℕ) → AreTerms t →

@@ -13,7 +13,7 @@ pub record SharedRace : Type 0 where
   pub id : TableId
   pub terms : Terms
 
--- what the fields of a race keep: two words and no slot, and the number of pieces beside them
+-- what the fields of a race keep: two words, no slot, and the number of pieces
 pub record IsSharedRace (pieces : ℕ) (id : TableId) (t : Terms) : Type 0 where
   pub two_words : id.words ≡ 2
   pub no_slot : id.slots ≡ 0
@@ -30,7 +30,7 @@ pub record Seated : Type 0 where
 abbrev pub new_seat : SharedRace → Seated
 new_seat race = record { race = race.id; view = new_view 1 }
 
--- At some moment the seat took the piece, which no seat had taken; or the number of pieces, exactly where all were taken, each once.
+-- At some moment the seat took the piece, which no seat had taken; or the number of pieces, exactly if all were taken, each once.
 unfoldable pub TakesPiece : Terms → View → ℕ → View → Type 0
 TakesPiece t old piece new =
     (m : Moment) × (k : ℕ) × (piece ≡ min m.ticket t.pieces)

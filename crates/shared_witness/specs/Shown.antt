@@ -5,7 +5,7 @@ use Rattle.shared_witness.specs.declared.view.View.{View}
 use Rattle.shared_witness.specs.declared.view.Terms.{Terms}
 use Rattle.shared_witness.specs.Moment.{Moment}
 
--- a seat has seen and posted the first bound, where it has seen and posted nothing less
+-- a seat has seen and posted the first bound, if it has seen and posted nothing less
 abbrev pub shown_worker : ℕ → View → Worker
 shown_worker first v = record {
   taken = v.taken;

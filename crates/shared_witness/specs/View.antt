@@ -5,7 +5,7 @@ use Rattle.shared_witness.specs.declared.view.View.{View}
 abbrev pub highest : ℕ
 highest = 2 ^ 32 - 1
 
--- the view that has taken, closed, seen and posted nothing, where so many takes may find no piece
+-- the view that has taken, closed, seen and posted nothing, if this many takes may find no piece
 abbrev pub new_view : ℕ → View
 new_view may =
     record {

@@ -42,7 +42,7 @@ pub fn ticket_is_small()
     ensures { TicketIsSmall }
 {}
 
-/// A take gives a piece that no seat took before, or none where all were taken.
+/// A take gives a piece that no seat took before, or none if all were taken.
 pub fn take_is_fresh()
     ensures { TakeIsFresh }
 {}
@@ -52,7 +52,7 @@ pub fn all_joined()
     ensures { AllJoined }
 {}
 
-/// Where the pieces that the seats took are all pieces, some seat took each.
+/// If the pieces that the seats took are all pieces, some seat took each.
 pub fn each_has_taker()
     ensures { EachHasTaker }
 {}
@@ -62,7 +62,7 @@ pub fn least_has_poster()
     ensures { LeastHasPoster }
 {}
 
-/// Where a seat is joined to another, the looks of both and the pieces that they closed are the other's.
+/// If a seat is joined to another, the looks of both and the pieces that they closed are the other's.
 pub fn joining_loses_nothing()
     ensures { JoiningLosesNothing }
 {}

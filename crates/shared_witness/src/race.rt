@@ -87,7 +87,7 @@ impl Race {
         })
     }
 
-    /// Takes the next piece: one that no seat took before, or the number of pieces where all were taken. The seat is then done.
+    /// Takes the next piece: one that no seat took before, or the number of pieces if all were taken. The seat is then done.
     pub fn take(&self, seat: &mut RaceSeat) -> u32
         requires race { seat.old.race ≡ self.now.id }
         requires going { seat.old.view.ends ≡ 0 }
@@ -116,7 +116,7 @@ impl Race {
         look_word::<Brand>(&self.words, &mut seat.seat) as u32
     }
 
-    /// Lowers the bound to `m`, where it is above, and answers what it is then.
+    /// Lowers the bound to `m`, if it is above, and answers what it is then.
     pub fn post(&self, seat: &mut RaceSeat, m: u32) -> u32
         requires race { seat.old.race ≡ self.now.id }
         ensures race { seat.new.race ≡ self.now.id }
@@ -141,8 +141,8 @@ impl Race {
         close_word::<Brand>(&self.words, &mut seat.seat, p) as u32
     }
 
-    /// Ends the race, and answers the bound: the least of the first bound and of all posts, and at most what any seat saw.
-    /// Where all seats are done, the pieces that they took are all pieces, each once.
+    /// Ends the race, and answers the bound: the least of the first bound and of all posts, and at most what any seat saw. If all seats
+    /// are done, the pieces that they took are all pieces, each once.
     pub fn finish(self, seats: Vec<RaceSeat>) -> u32
         requires race { All (λ s. s.race ≡ self.id) seats.items }
         requires each { length seats.items ≡ self.terms.workers }

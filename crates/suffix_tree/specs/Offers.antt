@@ -7,7 +7,7 @@ use Rattle.assertions.specs.Scores.{Score, offered}
 abbrev pub IsSomeByMargin : Score → Type 0
 IsSomeByMargin score = score.low ≡ 0 → score.by ≡ None
 
--- the score after the NENs of c over those behind it, by a row of the set
+-- the score after the NENs of c over those after it, by a row of the set
 abbrev pub with_nens : List ℕ → ℕ → ℕ → Score → List ℕ → Score
 with_nens row c set score behind =
     fold (λ s l. offered s (get_or row c 0 - get_or row l 0) (Nen c l set)) score behind

@@ -19,7 +19,7 @@ pub record IsScored (records : List (List ℕ)) (s : Scored) : Type 0 where
 abbrev pub IsScoredOver : Kept → Scored → Type 0
 IsScoredOver bag s = (records : List (List ℕ)) → IsOf bag records → IsScored records s
 
--- the suffix with its score, where it is below the limit, and nothing else
+-- the suffix with its score, if it is below the limit, and nothing else
 pub record IsScoredBelow (bag : Kept) (limit : ℕ) (tail : Suffix) (found : Option Scored)
     : Type 0 where
   pub whole : Scored
@@ -35,8 +35,8 @@ pub record AreScoredBelow (bag : Kept) (limit : ℕ) (tails : List Suffix) (foun
   pub scored : All (IsScoredOver bag) all
   pub found_are : found ≡ filter (λ s. nat_lt s.low limit) all
 
--- which of two suffixes is searched first: the one of the lower low; of equal lows the one that stands first where both are read
--- backwards; and then by the number of candidates and the refuter, so that only equal ones stand together
+-- which of two suffixes is searched first: the one of the lower low; of equal lows the one that comes first if both are read backwards;
+-- and then by the number of candidates and the refuter, so that only equal ones are equal
 abbrev pub search_cmp : Scored → Scored → Ordering
 search_cmp =
     then_cmp (on (λ s. s.low) nat_cmp)

@@ -1,4 +1,4 @@
-// Suffixes that are wanted where their low is below a limit.
+// Suffixes that are needed if their low is below a limit.
 ghost use Rattle.std.specs.Prelude.{◌≡◌, ◌<◌, ◌+◌, IfOk, IsFalse};
 ghost use Rattle.irv_base.specs.Candidates.{is_in};
 ghost use Rattle.suffix_tree.specs.Suffixes.{with_front, children};
@@ -11,7 +11,7 @@ use set_tallies::Tallies;
 use std::alloc::Global;
 use std::sync::ledger::Ledger;
 
-/// The suffix with one more candidate in front, with the score that `child` gives it, if its low is below the limit. Where its NEBs show
+/// The suffix with one more candidate in front, with the score that `child` gives it, if its low is below the limit. If its NEBs show
 /// that it isn't, its NENs aren't looked at. The one error is want of memory.
 pub fn child_below(
     parent: &Scored,

@@ -1,4 +1,7 @@
 // What a suffix has against it, and more assertions that are offered to it.
+//
+// Only true NEBs are offered, and they are few if a contest is close. Of the NENs that a child adds only one is offered. They differ in
+// the loser, so the best is the one over the loser with the fewest votes in the row, and at equal votes over the first candidate.
 ghost use Rattle.std.specs.Prelude.{◌≡◌, ℕ, ◌<◌, ◌≤◌, ◌/◌, ◌%◌, ◌^◌, min, not, List, ◌∷◌, map, filter, get_or};
 ghost use Rattle.irv_base.specs.Candidates.{candidates, has};
 ghost use Rattle.irv_base.specs.declared.limits.TheConstants.{ROOM};
@@ -18,7 +21,7 @@ use std::marker::Model;
 pub struct Score {
     /// The margin, in votes.
     pub low: u32,
-    /// The assertion, none exactly where `low` is 0.
+    /// The assertion, none exactly if `low` is 0.
     pub by: Option<Assertion>,
 }
 
@@ -52,7 +55,7 @@ pub fn offer(score: Score, margin: u32, a: Assertion) -> Score
     }
 }
 
-/// The margin of the NEB that `w` beats `l`, in votes, or 0 where it isn't true.
+/// The margin of the NEB that `w` beats `l`, in votes, or 0 if it isn't true.
 pub fn neb_margin(ahead: &Ahead, w: Candidate, l: Candidate) -> u32
     requires winner { w < ahead.now.n }
     requires loser { l < ahead.now.n }
@@ -94,8 +97,8 @@ fn votes(row: &[u32], c: Candidate) -> u32
 // How many values a byte has.
 const BYTE: u64 = 1 << 8;
 
-// The votes of a loser, as far as they count against the winner's, and behind them the loser: the smaller the number, the better is the
-// NEN over this loser. Votes beyond the winner's count no more, so that of NENs without a margin the first in the fixed order is the best.
+// The votes of a loser, as far as they count against the winner's, followed by the loser: the smaller the number, the better is the NEN
+// over this loser. Votes beyond the winner's count no more, so of NENs without a margin the first in the fixed order is the best.
 fn standing(row: &[u32], for_winner: u32, l: Candidate) -> u64
     ensures votes { result / 2 ^ 8 ≡ min (get_or row.now l 0) for_winner }
     ensures loser { result % 2 ^ 8 ≡ l }
@@ -119,7 +122,7 @@ fn least_standing(row: &[u32], for_winner: u32, first: Candidate, others: &[Cand
     least
 }
 
-/// The score after the NENs of `c` over those behind it, by a row of the set.
+/// The score after the NENs of `c` over those after it, by a row of the set.
 pub fn offer_nens(
     start: Score,
     c: Candidate,
@@ -142,7 +145,7 @@ pub fn offer_nens(
     offer(start, for_winner - (least / BYTE) as u32, claim)
 }
 
-/// The score after the NENs of `c` over those behind it, if it is below the limit. Where it isn't before them, none is looked at.
+/// The score after the NENs of `c` over those after it, if it is below the limit. If it isn't before them, none is looked at.
 pub fn offer_nens_below(
     start: Score,
     c: Candidate,

@@ -1,4 +1,4 @@
-// The last candidates of an elimination order, in a contest of so many.
+// The last candidates of an elimination order, and the number of candidates of the contest.
 ghost use Rattle.std.specs.Prelude.{◌≡◌, ◌<◌, ◌≤◌, ◌==◌, ◌∷◌, ◌++◌, [], length, IsTrue, IsFalse};
 ghost use Rattle.irv_base.specs.Candidates.{is_in, set_of};
 ghost use Rattle.irv_base.specs.Suffixes.{is_suffix};
@@ -8,8 +8,8 @@ ghost use Rattle.suffix_tree.specs.Suffixes.{with_front, whole};
 use irv_base::{CandSet, Candidate, Order, Suffix};
 use std::marker::Model;
 
-/// The last candidates of an elimination order, first eliminated first, so that the winner stands last, in a
-/// contest of `n` candidates. It grows at its front.
+/// The last candidates of an elimination order, first eliminated first, so the winner is last, in a contest of `n` candidates. It grows
+/// at its front.
 ///
 /// To a contract it is the list of these candidates, with the number of candidates of the contest.
 #[derive(Clone, Copy)]
@@ -101,7 +101,7 @@ impl Tail {
         self.suffix.list()
     }
 
-    /// The order that it is, where it has all candidates of the contest.
+    /// The order that it is, if it has all candidates of the contest.
     pub fn whole(&self) -> Option<Order>
         ensures { result ≡ whole self.now }
     {

@@ -9,7 +9,7 @@ use Rattle.assertions.specs.Suffixes.{alternative_orders, parts_ending, comes_be
 abbrev pub first_kept : ℕ → ℕ → (List ℕ → Bool) → Option (List ℕ)
 first_kept n winner kept = find kept (alternative_orders n winner)
 
--- where there is such an order, the suffix comes before it, both read backwards
+-- if there is such an order, the suffix comes before it, both read backwards
 abbrev pub is_passed : Option (List ℕ) → List ℕ → Bool
 is_passed None suffix = true
 is_passed (Some order) suffix = comes_before suffix order
@@ -23,7 +23,7 @@ kept_count n kept order c =
 abbrev pub first_over : ℕ → ℕ → ℕ → (ℕ → ℕ) → Option ℕ
 first_over n winner nodes count = find (λ c. nat_lt nodes (count c)) (all_but n winner)
 
--- the candidate over the budget, if there is one, and else the order
+-- the candidate over the budget, if there is one, and the order otherwise
 abbrev pub or_spent : Option ℕ → Option (List ℕ) → Result (Option (List ℕ)) ℕ
 or_spent (Some last) order = Err last
 or_spent None order = Ok order

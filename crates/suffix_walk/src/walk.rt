@@ -59,8 +59,8 @@ fn stopped(stop: Stop, last: Candidate) -> Result<Option<Order>, Candidate>
 
 /// The least order, read backwards, that the test keeps and that elects another candidate than the winner, or none.
 ///
-/// A suffix counts for the candidate whom it elects where it is kept, is no whole order, and comes before that
-/// order, both read backwards. Where more than `nodes` count for a candidate, the least such candidate is the error.
+/// A suffix counts for the candidate whom it elects if it is kept, is no whole order, and comes before that order, both read backwards.
+/// If more than `nodes` count for a candidate, the least such candidate is the error.
 pub fn first_within<T: Keeps>(
     test: &T,
     n: u32,

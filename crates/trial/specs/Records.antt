@@ -12,7 +12,7 @@ next state = (state * MULTIPLIER + INCREMENT) % 2 ^ 64
 abbrev pub drawn : ℕ → ℕ
 drawn state = next state / 2 ^ DROPPED_BITS
 
--- the state after so many draws
+-- the state after this many draws
 abbrev pub after : ℕ → ℕ → ℕ
 after zero state = state
 after (suc draws) state = after draws (next state)
@@ -23,7 +23,7 @@ after (suc draws) state = after draws (next state)
 abbrev pub places_of : ℕ → ℕ → ℕ
 places_of n state = 1 + drawn state % n
 
--- the candidates of so many places, each the smaller of two that are drawn
+-- the candidates of this many places, each the smaller of two that are drawn
 abbrev pub chosen : ℕ → ℕ → ℕ → List ℕ
 chosen n zero state = []
 chosen n (suc places) state =

@@ -23,7 +23,7 @@ use Rattle.input_files.specs.Judged.{told, go_on}
 use Rattle.input_files.specs.Refusals.{refused_assertions, refused_ballots}
 use Rattle.check_command.specs.Check.{verdict_on as check_verdict}
 
--- the trimmed file, or the trial for which the budget doesn't suffice, told by the ids of the file
+-- the trimmed file, or the trial for which the budget isn't enough, printed by the ids of the file
 abbrev pub trim_verdict : Content → Result Content TrimFault → Option Verdict
 trim_verdict file (Ok left) = Some (Answered Done (assertion_file_text left))
 trim_verdict file (Err (SpentAt claim last)) =

@@ -10,6 +10,7 @@ ghost use Rattle.trimmer.specs.Trimmed.{trimmed};
 ghost use Rattle.cli_base.specs.Accounts.{IsAccountedFor};
 ghost use Rattle.cli_base.specs.Begun.{HasCome};
 ghost use Rattle.cli_base.specs.Due.{due, IsOneOrMemory};
+ghost use Rattle.cli_base.specs.Faults.{IsFaultTold};
 ghost use Rattle.cli_base.specs.Script.{ByDesk, Runs};
 ghost use Rattle.command.specs.Trim.{IsWithinLimits};
 ghost use Rattle.trim_command.specs.Trim.{Trims, after_ballots, script, trim_verdict};
@@ -26,7 +27,7 @@ use std::alloc::Global;
 use std::thread::Threads;
 use trimmer::{TrimFault, trim};
 
-/// The assertion file without the claims that can go, where a check accepts it; else what the check says.
+/// The assertion file without the claims that can go, if a check accepts it; otherwise what the check says.
 pub fn answer<R: AllocGlobal + Threads + Sync, D: Desk>(
     rt: &R,
     desk: &mut D,
@@ -34,7 +35,7 @@ pub fn answer<R: AllocGlobal + Threads + Sync, D: Desk>(
 ) -> Result<Answer, Refusal>
     requires { IsWithinLimits task.now }
     ensures held { D.held desk.new ≡ D.held desk.old }
-    ensures later { D.faults desk.old ≤ D.faults desk.new }
+    ensures faults { IsFaultTold (D.faults desk.old) (D.faults desk.new) (due result).status }
     ensures due { HasCome
         (ByDesk (D.held desk.old) (Rose (D.faults desk.old) (D.faults desk.new)))
         (D.served desk.old) (D.served desk.new)
@@ -55,7 +56,7 @@ fn after_votes<R: AllocGlobal + Threads + Sync, D: Desk>(
     budget: Budget,
 ) -> Result<Answer, Refusal>
     ensures held { D.held desk.new ≡ D.held desk.old }
-    ensures later { D.faults desk.old ≤ D.faults desk.new }
+    ensures faults { IsFaultTold (D.faults desk.old) (D.faults desk.new) (due result).status }
     ensures due { (ballots : BallotFile) → votes.now ≡ votes_of ballots → HasCome
         (ByDesk (D.held desk.old) (Rose (D.faults desk.old) (D.faults desk.new)))
         (D.served desk.old) (D.served desk.new)

@@ -1,5 +1,5 @@
 -- How often a list says what, once it has an assertion more or less.
-use Rattle.std.proofs.Common.{◌≡◌, inl, inr, ℕ, ◌+◌, ◌-◌, ◌<◌, ◌≤◌, ◌^◌, nat_lt, cond, Bool, true, false, ◌&&◌, ◌||◌, ◌==◌, List, [], ◌∷◌, ◌++◌, length, Option, Some, unwrap_or, Result, Ok, Err, OnOk, refl, sym, ap, ap₂, arith, eq-eqb, eqb-true, ◌∙◌}
+use Rattle.std.proofs.Common.{◌≡◌, inl, inr, ℕ, ◌+◌, ◌-◌, ◌≤◌, nat_lt, cond, Bool, true, false, ◌&&◌, ◌||◌, ◌==◌, List, [], ◌∷◌, ◌++◌, length, Option, Some, unwrap_or, refl, sym, ap, ap₂, arith, eq-eqb, eqb-true, ◌∙◌}
 use Rattle.std.specs.BTreeMap.{get}
 use Rattle.std.specs.List.{list_any}
 use Rattle.std.specs.Ordering.{is_eq}
@@ -15,7 +15,7 @@ use Rattle.cover_checker.specs.Numbered.{under}
 use Rattle.cover_checker.specs.declared.refuting.Refuting.{Refuting}
 use Rattle.cover_checker.proofs.Indexes.{eq-turned}
 use Rattle.cover_checker.proofs.Indexing.{any-parted}
-use Rattle.trimmer.specs.Counted.{IsCountOf, alike, count_in, is_alike, times}
+use Rattle.trimmer.specs.Counted.{alike, count_in, is_alike, times}
 use Rattle.trimmer.specs.declared.counted.Counted.{Counted}
 
 -- ---- what refutes the same

@@ -7,7 +7,7 @@ use Rattle.assertions.specs.declared.assertion.Claim.{Claim}
 use Rattle.assertion_file.specs.Content.{Content, Plan, IsDrawCount, IsSoundPlan}
 use Rattle.trimmer.specs.Trimmed.{can_go, covered_by, draws_left, left_of, trial as trial_of, unless_gone}
 use Rattle.trimmer.proofs.Draws.{draws-all, draws-many}
-use Rattle.trimmer.proofs.Steps.{left_from, trial}
+use Rattle.trimmer.proofs.TrialSteps.{left_from, trial}
 
 -- facts that are shown as the plan
 pub shown-some : {F : Type 0} (shown : F → Plan) (P : Plan → Type 0) (facts : Option F) (plan : Option Plan) → option_map shown facts ≡ plan →

@@ -8,7 +8,7 @@ use Rattle.assertion_file.specs.Content.{Content, Plan}
 use Rattle.assertion_file.specs.Text.{told_of}
 use Rattle.cover_checker.specs.declared.cover.Verdict.TheVariants.{Covered, Stands}
 use Rattle.trimmer.specs.Laws.{IsPartOf, nothing, kept, dropped, IsPlannedAlike}
-use Rattle.trimmer.specs.Trimmed.{can_go, covered_by, trial, left_of, draws_left, unless_gone, with_draws, plan_left, trimmed}
+use Rattle.trimmer.specs.Trimmed.{can_go, covered_by, trial, left_of, draws_left, margin_left, unless_gone, with_draws, plan_left, trimmed}
 use Rattle.trimmer.proofs.Lefts.{fate, from_trimmed, left-part}
 
 -- ---- parts
@@ -161,7 +161,7 @@ plan-stays budget file left e planned whole = ap trimmed_again planned ∙ by fi
 
 pub trimmed_is_part : (budget : Budget) (file left : Content) → trimmed budget file ≡ Ok left → IsPartOf left.claims file.claims
     × IsPartOf (told_of left.plan left.claims) (told_of file.plan file.claims) × IsPlannedAlike file.plan left.plan
-    × (left ≡ record file { claims = left.claims; plan = left.plan })
+    × (left ≡ record file { margin = margin_left file left.claims; claims = left.claims; plan = left.plan })
 trimmed_is_part budget file left e =
     let t = from_trimmed budget file left e in (
       left-part budget file [] file.claims left.claims t.claims,

@@ -1,5 +1,5 @@
 -- Each claim that is left is needed.
-use Rattle.std.proofs.Common.{◌≡◌, ◌≢◌, inl, inr, ℕ, true, false, List, [], ◌∷◌, ◌++◌, map, Ok, refl, sym, ap, subst, ◌∙◌, append_assoc}
+use Rattle.std.proofs.Common.{◌≡◌, ◌≢◌, inl, inr, ℕ, true, false, List, [], ◌∷◌, ◌++◌, map, Option, Some, None, Ok, refl, sym, ap, subst, ◌∙◌, append_assoc}
 use Rattle.std.specs.List.{list_any}
 use Rattle.std.proofs.lemmas.Bool.{both_ways, false_from_ne_true, not-true, not_from_false}
 use Rattle.irv_base.proofs.Members.{Member, there, from_map, member-map, member_at, member_cases, member-append_cases, member-append_left, member-append_right, from_list_any, list_any-member}
@@ -14,9 +14,9 @@ use Rattle.cover_checker.specs.Covers.{stands}
 use Rattle.cover_checker.specs.declared.cover.Verdict.TheVariants.{Covered, Stands}
 use Rattle.cover_checker.proofs.Verdicts.{covered_iff_covers, stands_is_least}
 use Rattle.trimmer.specs.Laws.{IsIrredundant, IsPartOf, nothing, kept, dropped}
-use Rattle.trimmer.specs.Trimmed.{covered_by, left_of, trimmed}
+use Rattle.trimmer.specs.Trimmed.{covered_by, left_of, margin_left, margin_with, trimmed}
 use Rattle.trimmer.proofs.Draws.{plan-stays}
-use Rattle.trimmer.proofs.Lefts.{assertion_in, fate, from_trimmed}
+use Rattle.trimmer.proofs.Lefts.{IsTrimmed, assertion_in, fate, from_trimmed}
 
 -- what no claim of a list refutes, none refutes of a list that has fewer
 pub stands-fewer : (more fewer : List Claim) (order : List ℕ) → ((claim : Claim) → Member claim fewer → Member claim more) →
@@ -143,6 +143,16 @@ no_part_covers budget file left e part p ne =
     (left-needed budget file [] file.claims left.claims (from_trimmed budget file left e).claims before claim behind split) in
     stands-uncovered (candidate_count file) file.winner part order alternative h
 
+-- the margin of a trimmed file stays where none of its claims goes
+margin-stays : (budget : Budget) (file left : Content) → IsTrimmed budget file left → margin_left left left.claims ≡ left.margin
+margin-stays budget file left t =
+    let order : left.order ≡ file.order = ap (λ (content : Content). content.order) t.same in
+    by left.order (t.margin ∙ ap (λ order. margin_with order file.margin left.claims) (sym order))
+  where
+    by : (order : Option (List ℕ)) → left.margin ≡ margin_with order file.margin left.claims → margin_with order left.margin left.claims ≡ left.margin
+    by None e = sym e
+    by (Some order) e = refl
+
 pub trimmed_stays : (budget : Budget) (file left again : Content) → trimmed budget file ≡ Ok left → trimmed budget left ≡ Ok again → again ≡ left
 trimmed_stays budget file left again e f =
     let t = from_trimmed budget file left e in
@@ -153,4 +163,5 @@ trimmed_stays budget file left again e f =
     let claims : again.claims ≡ left.claims = needed-stay budget left left.claims needed [] left.claims again.claims refl u.claims in
     let whole : left_of budget left [] left.claims ≡ Ok left.claims = u.claims ∙ ap Ok claims in
     let plan : again.plan ≡ left.plan = u.plan ∙ plan-stays budget file left t.claims t.plan whole in
-    u.same ∙ (λ i. record left { claims = claims i; plan = plan i })
+    let margin : margin_left left again.claims ≡ left.margin = ap (margin_left left) claims ∙ margin-stays budget file left t in
+    u.same ∙ (λ i. record left { margin = margin i; claims = claims i; plan = plan i })

@@ -10,7 +10,7 @@ use Rattle.cover_checker.specs.declared.cover.CoverFault.{CoverFault}
 use Rattle.cover_checker.specs.declared.cover.CoverFault.TheVariants.{Spent as CoverSpent, SpentSets as CoverSpentSets, Memory as CoverMemory}
 use Rattle.trimmer.specs.declared.fault.TrimFault.{TrimFault}
 use Rattle.trimmer.specs.Laws.{IsPartOf, nothing, kept, dropped}
-use Rattle.trimmer.specs.Trimmed.{can_go, unless_it_goes, with_claims, covered_by, tried, left_of, plan_left, trimmed}
+use Rattle.trimmer.specs.Trimmed.{can_go, unless_it_goes, with_claims, covered_by, tried, left_of, margin_left, plan_left, trimmed}
 
 abbrev pub assertion_in : Claim → Assertion
 assertion_in claim = claim.assertion
@@ -75,19 +75,21 @@ module _ (budget : Budget) (file : Content) where
 pub record IsTrimmed (budget : Budget) (file left : Content) : Type 0 where
   pub claims : left_of budget file [] file.claims ≡ Ok left.claims
   pub plan : left.plan ≡ plan_left budget file
-  pub same : left ≡ record file { claims = left.claims; plan = left.plan }
+  pub margin : left.margin ≡ margin_left file left.claims
+  pub same : left ≡ record file { margin = margin_left file left.claims; claims = left.claims; plan = left.plan }
 
 pub from_trimmed : (budget : Budget) (file left : Content) → trimmed budget file ≡ Ok left → IsTrimmed budget file left
 from_trimmed budget file left e = go (left_of budget file [] file.claims) refl e where
   go : (r : Result (List Claim) TrimFault) → left_of budget file [] file.claims ≡ r → with_claims file (plan_left budget file) r ≡ Ok left →
       IsTrimmed budget file left
   go (Ok claims) f e =
-      let same : record file { claims = claims; plan = plan_left budget file } ≡ left = cc in
+      let same : record file { margin = margin_left file claims; claims = claims; plan = plan_left budget file } ≡ left = cc in
       let its : claims ≡ left.claims = ap (λ (content : Content). content.claims) same in
       let planned : plan_left budget file ≡ left.plan = ap (λ (content : Content). content.plan) same in
       record {
         claims = f ∙ ap Ok its;
         plan = sym planned;
-        same = sym same ∙ (λ i. record file { claims = its i; plan = planned i });
+        margin = sym (ap (λ (content : Content). content.margin) same) ∙ ap (margin_left file) its;
+        same = sym same ∙ (λ i. record file { margin = margin_left file (its i); claims = its i; plan = planned i });
       }
   go (Err fault) f e = cc

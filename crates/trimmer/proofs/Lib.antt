@@ -1,7 +1,7 @@
 pub mod Counting
 pub mod Lefts
 pub mod Draws
-pub mod Steps
+pub mod TrialSteps
 pub mod DrawSteps
 pub mod Below
 pub mod Walking
@@ -15,3 +15,7 @@ pub mod Kept
 pub mod Accepted
 pub mod Enough
 pub mod BySets
+pub mod Standing
+pub mod Closing
+pub mod Opening
+pub mod Spreads

@@ -23,7 +23,7 @@ scanned-moved nodes n m winner other list same claim its counts scan a b c d h =
     (subst (λ w. Scanned nodes m w list claim counts scan) b (subst (λ n. Scanned nodes n winner list claim counts scan) a h)))
 
 module _ (nodes : ℕ) (file : Content) (place : ℕ) (later : List Claim) (counts : List ℕ) (d : Claim) (some : 0 < candidate_count file)
-    (below : place < length file.claims) (were : CountWith (Nodes nodes) file (take (place + 1) file.claims ++ later) counts) where
+    (below : place < length file.claims) (were : CountWith nodes file (take (place + 1) file.claims ++ later) counts) where
   abbrev claim : Assertion
   claim = (get_or file.claims place d).assertion
 
@@ -36,7 +36,7 @@ module _ (nodes : ℕ) (file : Content) (place : ℕ) (later : List Claim) (coun
       ∙ stands-parted (take place file.claims) (get_or file.claims place d) later s
 
   pub goes-on : (more : List ℕ) → Scanned nodes (candidate_count file) file.winner others (Some claim) counts (ScanCovered more) →
-      (covered_by (Nodes nodes) file (take place file.claims ++ later) ≡ Ok Covered) × CountWith (Nodes nodes) file (take place file.claims ++ later) more
+      (covered_by (Nodes nodes) file (take place file.claims ++ later) ≡ Ok Covered) × CountWith nodes file (take place file.claims ++ later) more
   goes-on more scanned = (
     next-covered nodes (candidate_count file) file.winner (map assertion_in (take (place + 1) file.claims ++ later)) others claim some parted counts were.0
         were.1 more scanned,

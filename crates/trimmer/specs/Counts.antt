@@ -1,5 +1,5 @@
 -- How many suffixes count, where claims cover, and what a scan of the alternative winners says of them.
-use Rattle.std.specs.Prelude.{◌≡◌, ◌≢◌, ◌<◌, ◌≤◌, ℕ, List, [], ◌∷◌, map, slice_index, Option, Ok, Err, ⊤}
+use Rattle.std.specs.Prelude.{◌≡◌, ◌≢◌, ◌<◌, ◌≤◌, ℕ, List, [], ◌∷◌, map, slice_index, Option, Ok, Err}
 use Rattle.budget.specs.declared.budget.Budget.{Budget}
 use Rattle.budget.specs.declared.budget.Budget.TheVariants.{Nodes, Sets}
 use Rattle.assertions.specs.declared.assertion.Assertion.{Assertion}
@@ -10,6 +10,9 @@ use Rattle.suffix_walk.specs.Walks.{walked}
 use Rattle.suffix_walk.specs.declared.walk.Stop.TheVariants.{Found as WalkFound, Spent as WalkSpent}
 use Rattle.cover_checker.specs.Covers.{stands}
 use Rattle.trimmer.specs.Opened.{opens}
+use Rattle.trimmer.specs.Spreading.{AreReached}
+use Rattle.trimmer.specs.declared.known.Known.{Known}
+use Rattle.trimmer.specs.declared.known.Known.TheVariants.{Suffixes as KnownSuffixes, Sets as KnownSets}
 use Rattle.trimmer.specs.declared.scan.Scan.{Scan}
 use Rattle.trimmer.specs.declared.scan.Scan.TheVariants.{Covered, Stands, Unclear}
 
@@ -42,9 +45,22 @@ module _ (nodes n winner : ℕ) (others : List Assertion) (claim : Option Assert
       × (walked n nodes (opens others claim) (slice_index counts last) (all_ending n (last ∷ []))
       ≡ Err WalkSpent)
 
--- the counts with these claims of the file; of sets nothing is kept from one trial to the next
-abbrev pub CountWith : Budget → Content → List Claim → List ℕ → Type 0
-CountWith (Nodes nodes) file claims counts =
+-- the counts with these claims of the file
+abbrev pub CountWith : ℕ → Content → List Claim → List ℕ → Type 0
+CountWith nodes file claims counts =
     AreCounts nodes (candidate_count file) file.winner (map (λ claim. claim.assertion) claims) counts
     × AreWithin nodes counts
-CountWith (Sets sets) file claims counts = ⊤
+
+-- the sets that are reached with these claims of the file
+abbrev pub ReachedWith : ℕ → Content → List Claim → List ℕ → Type 0
+ReachedWith budget file claims reached =
+    AreReached (candidate_count file) file.winner budget (map (λ claim. claim.assertion) claims) reached
+
+-- what is known with these claims of the file
+abbrev pub IsKnown : Content → List Claim → Known → Type 0
+IsKnown file claims (KnownSuffixes known) = CountWith known.nodes file claims known.counts
+IsKnown file claims (KnownSets known) = ReachedWith known.budget file claims known.reached
+
+abbrev pub budget_of : Known → Budget
+budget_of (KnownSuffixes known) = Nodes known.nodes
+budget_of (KnownSets known) = Sets known.budget

@@ -11,7 +11,7 @@ use Rattle.assertion_file.specs.Text.{told_of}
 use Rattle.cover_checker.specs.Covers.{stands}
 use Rattle.cover_checker.specs.Checks.{IsAnswer}
 use Rattle.cover_checker.specs.declared.checked.Checked.TheVariants.{Accepted}
-use Rattle.trimmer.specs.Trimmed.{trimmed}
+use Rattle.trimmer.specs.Trimmed.{margin_left, trimmed}
 use Rattle.trimmer.specs.declared.fault.TrimFault.TheVariants.{Spent, SpentSets}
 
 -- the one list is the other without some of its claims, in the same order
@@ -38,14 +38,19 @@ TrimmedIsAccepted =
     IsAnswer budget ballots file (Ok Accepted) → trimmed budget file ≡ Ok left →
     IsAnswer budget ballots left (Ok Accepted)
 
--- the claims are a part of those that were read, each with what was told of its draws, and all else is the same
+-- the claims are a part of those that were read, each with what was told of its draws, and all else is the same; only a file without an order
+-- has another margin if its smallest has gone
 abbrev pub TrimmedIsPart : Type 0
 TrimmedIsPart =
     (budget : Budget) (file left : Content) → trimmed budget file ≡ Ok left →
     IsPartOf left.claims file.claims
     × IsPartOf (told_of left.plan left.claims) (told_of file.plan file.claims)
     × IsPlannedAlike file.plan left.plan
-    × (left ≡ record file { claims = left.claims; plan = left.plan })
+    × (left ≡ record file {
+      margin = margin_left file left.claims;
+      claims = left.claims;
+      plan = left.plan;
+    })
 
 -- each claim is needed: without it an order stands that elects another candidate, since no other claim refutes it
 abbrev pub IsIrredundant : Content → Type 0

@@ -1,6 +1,7 @@
 -- What is left of an assertion file once each claim that can go is dropped, from the last to the first.
-use Rattle.std.specs.Prelude.{ℕ, ◌+◌, Bool, true, false, if◌then◌else◌, List, [], ◌∷◌, ◌++◌, length, map, Option, option_map, Result, Ok, Err}
+use Rattle.std.specs.Prelude.{ℕ, ◌+◌, Bool, true, false, if◌then◌else◌, List, [], ◌∷◌, ◌++◌, length, map, Option, Some, None, option_map, Result, Ok, Err}
 use Rattle.budget.specs.declared.budget.Budget.{Budget}
+use Rattle.irv_base.specs.Tabulation.{least}
 use Rattle.assertions.specs.declared.assertion.Claim.{Claim}
 use Rattle.assertion_file.specs.Content.{Content, Plan, candidate_count}
 use Rattle.cover_checker.specs.Covers.{covered_is}
@@ -31,8 +32,17 @@ unless_gone draws later (Err fault) = later
 abbrev pub with_draws : List (Option ℕ) → Plan → Plan
 with_draws draws plan = record plan { draws = draws }
 
+abbrev pub margin_with : Option (List ℕ) → ℕ → List Claim → ℕ
+margin_with None margin claims = least (map (λ claim. claim.margin) claims)
+margin_with (Some order) margin claims = margin
+
+-- a file without an order has the smallest margin of the claims that are left; by an order the margin can't be larger, and stays
+abbrev pub margin_left : Content → List Claim → ℕ
+margin_left file claims = margin_with file.order file.margin claims
+
 abbrev pub with_claims : Content → Option Plan → Result (List Claim) TrimFault → Result Content TrimFault
-with_claims file plan (Ok claims) = Ok (record file { claims = claims; plan = plan })
+with_claims file plan (Ok claims) =
+    Ok (record file { margin = margin_left file claims; claims = claims; plan = plan })
 with_claims file plan (Err fault) = Err fault
 
 module _ (budget : Budget) (file : Content) where

@@ -2,12 +2,12 @@
 ghost use Rattle.std.specs.Prelude.{◌≡◌, ◌<◌, ◌-◌, ◌^◌, List, [], ◌∷◌, ◌++◌, nat_lt, length, IfOk, OnOk};
 ghost use Rattle.std.specs.List.{list_any};
 ghost use Rattle.assertions.specs.declared.assertion.Assertion.{Assertion as Said};
-ghost use Rattle.cover_checker.specs.Indexed.{is_new};
+ghost use Rattle.cover_checker.specs.Indexed.{is_neb};
 ghost use Rattle.trimmer.specs.Counted.{IsCountOf, alike, count_in, times};
 
 use assertions::Assertion;
 use cover_checker::Refuting;
-use irv_base::Memory;
+use irv_base::{Candidate, Memory};
 use std::alloc::Global;
 use std::collections::BTreeMap;
 
@@ -70,5 +70,12 @@ impl Counted {
         let times = self.times(a).saturating_sub(1);
         self.times.insert(alike(a), times)?;
         self.refuting.put(a, times > 0)
+    }
+
+    /// Whether one of the assertions is the NEB of this winner over this loser.
+    pub fn has_neb(&self, w: Candidate, l: Candidate) -> bool
+        ensures { (list : List Said) → IsCountOf list self.now → result ≡ list_any (is_neb w l) list }
+    {
+        self.refuting.winners[l.index()].has(w)
     }
 }

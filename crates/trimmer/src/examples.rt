@@ -29,3 +29,11 @@ pub fn planned()
         ≡ Ok (record (own.planning (None ∷ Some 30 ∷ []))
         { claims = take 2 files.three_candidates.claims }) }
 {}
+
+/// A file without an order has the smallest margin of the claims that are left.
+pub fn covered()
+    ensures three_candidates { trimmed (Budget.Nodes 2) files.covered
+        ≡ Ok (record files.covered { claims = take 2 files.covered.claims }) }
+    ensures larger { trimmed (Budget.Nodes 1) (own.twice 1)
+        ≡ Ok (record (own.twice 2) { claims = take 1 (own.twice 2).claims }) }
+{}

@@ -1,13 +1,13 @@
 //! What a trimmed file says. Each law holds of every value that it names, and has no code.
 ghost use Rattle.trimmer.specs.Laws.{TrimmedIsAccepted, TrimmedIsPart, TrimmedIsIrredundant, NoPartCovers, TrimmedStays, TrimIsNeverSpent, TrimBySetsIsNeverSpent};
 
-/// Where a check accepts the file that was read, it accepts the trimmed one, on the same ballots and at the same budget.
+/// If a check accepts the file that was read, it accepts the trimmed one, on the same ballots and at the same budget.
 pub fn trimmed_is_accepted()
     ensures { TrimmedIsAccepted }
 {}
 
 /// The claims of a trimmed file are among those that were read, in their order and with their draws, and all else of it is the
-/// same.
+/// same, but for the margin of a file without an order: it's the smallest of those that are left.
 pub fn trimmed_is_part()
     ensures { TrimmedIsPart }
 {}

@@ -1,7 +1,7 @@
 // The claims that are left while they are tried, from the last to the first.
 ghost use Rattle.std.specs.Prelude.{◌≡◌, ◌<◌, ◌+◌, ◌-◌, ◌^◌, [], ◌∷◌, length, take, IfOk};
 ghost use Rattle.std.specs.List.{list_any};
-ghost use Rattle.cover_checker.specs.Indexed.{IsIndexOf, is_new};
+ghost use Rattle.cover_checker.specs.Indexed.{IsIndexOf, is_neb, is_new};
 ghost use Rattle.trimmer.specs.Remaining.{assertions_in};
 
 use crate::counted::Counted;
@@ -112,6 +112,13 @@ impl<'a> Remaining<'a> {
         ensures { IsIndexOf (assertions_in self.now) result.now }
     {
         &self.counted.refuting
+    }
+
+    /// Whether one of the claims is the NEB of this winner over this loser.
+    pub fn has_neb(&self, w: Candidate, l: Candidate) -> bool
+        ensures { result ≡ list_any (is_neb w l) (assertions_in self.now) }
+    {
+        self.counted.has_neb(w, l)
     }
 
     /// Whether one of the claims refutes a suffix with this first candidate and this set, if none refutes its parent.

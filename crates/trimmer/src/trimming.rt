@@ -4,19 +4,21 @@ ghost use Rattle.irv_base.specs.declared.limits.TheConstants.{ROOM};
 ghost use Rattle.assertion_file.specs.Content.{candidate_count, IsDrawCount, IsSoundClaim};
 ghost use Rattle.cover_checker.specs.Findings.{assertions_of};
 ghost use Rattle.cover_checker.specs.Covers.{covered_is};
-ghost use Rattle.trimmer.specs.Counts.{AreCounts, AreWithin, CountWith};
+ghost use Rattle.trimmer.specs.Counts.{AreCounts, AreWithin, CountWith, IsKnown, budget_of};
 ghost use Rattle.trimmer.specs.Remaining.{assertions_in};
-ghost use Rattle.trimmer.specs.Trimmed.{can_go, covered_by, draws_left, left_of, trimmed, with_draws};
+ghost use Rattle.trimmer.specs.Trimmed.{can_go, covered_by, draws_left, left_of, margin_left, trimmed, with_draws};
 
+use crate::by_sets::{can_go_by_sets, first_reached};
 use crate::counts::counts_of;
 use crate::fault::TrimFault;
+use crate::known::{Known, KnownSets, KnownSuffixes};
 use crate::opened::Without;
 use crate::remaining::Remaining;
 use crate::scan::{Scan, scanned};
 use assertion_file::{AssertionFile, Parts, PlanFacts};
 use assertions::Claim;
 use budget::Budget;
-use cover_checker::{CoverFault, SetWalk, Verdict, reach};
+use cover_checker::{Verdict, smallest_margin};
 use irv_base::{Candidate, Memory, ROOM};
 use std::alloc::Global;
 use suffix_walk::first_within;
@@ -63,12 +65,12 @@ fn can_go_by_nodes(
 ) -> Result<bool, TrimFault>
     requires place { place < length f.now.claims }
     requires others { (others.now).untried ≡ take place f.now.claims }
-    requires counts { CountWith (Budget.Nodes nodes) f.now
+    requires counts { CountWith nodes f.now
         (take (place + 1) f.now.claims ++ (others.now).kept) counts.old }
     ensures goes { result ≡ can_go (place + 1)
         (covered_by (Budget.Nodes nodes) f.now (take place f.now.claims ++ (others.now).kept)) }
     ensures counts { IfOk result (λ goes. MatchBool goes
-        (CountWith (Budget.Nodes nodes) f.now (take place f.now.claims ++ (others.now).kept) counts.new)
+        (CountWith nodes f.now (take place f.now.claims ++ (others.now).kept) counts.new)
         (counts.new ≡ counts.old)) }
 {
     let n = f.candidates().len() as u32;
@@ -94,78 +96,40 @@ fn can_go_by_nodes(
     }
 }
 
-// Why the trial of the claim with this number isn't decided, where the others can't be told to cover for this.
-fn fault_of(number: u64, fault: CoverFault) -> TrimFault
-    ensures { Err result ≡ can_go number (Err fault) }
-{
-    match fault {
-        CoverFault::Spent { last } => TrimFault::Spent {
-            claim: number,
-            last,
-        },
-        CoverFault::SpentSets { sets } => TrimFault::SpentSets {
-            claim: number,
-            sets,
-        },
-        CoverFault::Memory => TrimFault::Memory,
-    }
-}
-
-// Whether it can go, by a walk into each set once that the others let stand.
-fn can_go_by_sets(
-    alloc: Global,
-    f: &AssertionFile,
-    place: usize,
-    others: &Remaining<'_>,
-    sets: u32,
-) -> Result<bool, TrimFault>
-    requires place { place < length f.now.claims }
-    requires others { (others.now).untried ≡ take place f.now.claims }
-    ensures { result ≢ Err TrimFault.Memory → result ≡ can_go (place + 1)
-        (covered_by (Budget.Sets sets) f.now (take place f.now.claims ++ (others.now).kept)) }
-{
-    let many = f.claims().len();
-    prove!(place < many);
-    let claim = place as u64 + 1;
-    let n = f.candidates().len() as u32;
-    match reach(alloc, others.refuting(), n, f.winner(), sets) {
-        Ok(SetWalk::Ended(_)) => Ok(true),
-        Ok(SetWalk::Found(_)) => Ok(false),
-        Err(fault) => Err(fault_of(claim, fault)),
-    }
-}
-
-// Whether it can go, by the budget. Of sets the counts say nothing.
+// Whether it can go, by what is known with the claim. Then that is what is known of what is left.
 fn can_go(
     alloc: Global,
     f: &AssertionFile,
     place: usize,
     others: &Remaining<'_>,
-    budget: Budget,
-    counts: &mut [u32; ROOM as usize],
+    known: &mut Known,
 ) -> Result<bool, TrimFault>
     requires place { place < length f.now.claims }
     requires others { (others.now).untried ≡ take place f.now.claims }
-    requires counts { CountWith budget f.now
-        (take (place + 1) f.now.claims ++ (others.now).kept) counts.old }
+    requires known { IsKnown f.now (take (place + 1) f.now.claims ++ (others.now).kept) known.old }
     ensures goes { result ≢ Err TrimFault.Memory → result ≡ can_go (place + 1)
-        (covered_by budget f.now (take place f.now.claims ++ (others.now).kept)) }
-    ensures counts { IfOk result (λ goes. MatchBool goes
-        (CountWith budget f.now (take place f.now.claims ++ (others.now).kept) counts.new)
-        (counts.new ≡ counts.old)) }
+        (covered_by (budget_of known.old) f.now (take place f.now.claims ++ (others.now).kept)) }
+    ensures known { IfOk result (λ goes. MatchBool goes
+        (IsKnown f.now (take place f.now.claims ++ (others.now).kept) known.new)
+        (known.new ≡ known.old)) }
+    ensures budget { budget_of known.new ≡ budget_of known.old }
 {
-    match budget {
-        Budget::Nodes(nodes) => can_go_by_nodes(f, place, others, nodes, counts),
-        Budget::Sets(sets) => can_go_by_sets(alloc, f, place, others, sets),
+    match known {
+        Known::Suffixes(known) => {
+            can_go_by_nodes(f, place, others, known.nodes, &mut known.counts)
+        }
+        Known::Sets(known) => {
+            can_go_by_sets(alloc, f, place, others, known.budget, &mut known.reached)
+        }
     }
 }
 
 // How many suffixes count with all claims of the file.
-fn first_counts_by_nodes(f: &AssertionFile, all: &Remaining<'_>, nodes: u32) -> [u32; ROOM as usize]
+fn first_counts(f: &AssertionFile, all: &Remaining<'_>, nodes: u32) -> [u32; ROOM as usize]
     requires covered { covered_is (candidate_count f.now) f.now.winner (assertions_of f.now) (Budget.Nodes nodes)
         ≡ Ok Verdict.Covered }
     requires all { all.now ≡ record { untried = f.now.claims; kept = [] } }
-    ensures { CountWith (Budget.Nodes nodes) f.now f.now.claims result }
+    ensures { CountWith nodes f.now f.now.claims result }
 {
     let all = Without {
         n: f.candidates().len() as u32,
@@ -175,16 +139,28 @@ fn first_counts_by_nodes(f: &AssertionFile, all: &Remaining<'_>, nodes: u32) -> 
     counts_of(&all, f.winner(), nodes)
 }
 
-// The counts before the first trial.
-fn first_counts(f: &AssertionFile, all: &Remaining<'_>, budget: Budget) -> [u32; ROOM as usize]
+// What is known before the first trial.
+fn first_known(
+    alloc: Global,
+    f: &AssertionFile,
+    all: &Remaining<'_>,
+    budget: Budget,
+) -> Result<Known, Memory>
     requires covered { covered_is (candidate_count f.now) f.now.winner (assertions_of f.now) budget
         ≡ Ok Verdict.Covered }
     requires all { all.now ≡ record { untried = f.now.claims; kept = [] } }
-    ensures { CountWith budget f.now f.now.claims result }
+    ensures known { IfOk result (IsKnown f.now f.now.claims) }
+    ensures budget { IfOk result (λ known. budget_of known ≡ budget) }
 {
     match budget {
-        Budget::Nodes(nodes) => first_counts_by_nodes(f, all, nodes),
-        Budget::Sets(_) => [0; ROOM as usize],
+        Budget::Nodes(nodes) => Ok(Known::Suffixes(KnownSuffixes {
+            nodes,
+            counts: first_counts(f, all, nodes),
+        })),
+        Budget::Sets(budget) => Ok(Known::Sets(KnownSets {
+            budget,
+            reached: first_reached(alloc, f, all, budget)?,
+        })),
     }
 }
 
@@ -216,6 +192,7 @@ fn left_of(alloc: Global, f: &AssertionFile, budget: Budget) -> Result<Left, Tri
         ≡ Ok Verdict.Covered }
     ensures left { IfOk result (λ left. left_of budget f.now [] f.now.claims
         ≡ Ok left.claims.items) }
+    ensures some { IfOk result (λ left. 1 ≤ length left.claims.items) }
     ensures sound { IfOk result (λ left.
         All (IsSoundClaim (candidate_count f.now) f.now.records) left.claims.items) }
     ensures draws { IfOk result (λ left. IfSome f.now.plan (λ plan.
@@ -231,10 +208,10 @@ fn left_of(alloc: Global, f: &AssertionFile, budget: Budget) -> Result<Left, Tri
     let plan = f.plan();
     let mut left = Remaining::all(alloc, f.candidates().len() as u32, claims)?;
     let mut draws: Vec<Option<u32>> = Vec::new(alloc);
-    let mut counts = first_counts(f, &left, budget);
+    let mut known = first_known(alloc, f, &left, budget)?;
     for j in (0..claims.len()).rev() {
         let others = left.without_last()?;
-        left = if can_go(alloc, f, j, &others, budget, &mut counts)? {
+        left = if can_go(alloc, f, j, &others, &mut known)? {
             others
         } else {
             push_draws(&mut draws, plan, j)?;
@@ -261,14 +238,26 @@ fn plan_with(plan: Option<&PlanFacts>, draws: Vec<Option<u32>>) -> Option<PlanFa
     })
 }
 
+// The margin of the file with these of its claims.
+fn margin_left(f: &AssertionFile, claims: &[Claim]) -> u32
+    ensures { result ≡ margin_left f.now claims.now }
+{
+    match f.order() {
+        None => smallest_margin(claims),
+        Some(_order) => f.margin(),
+    }
+}
+
 // The file with these of its claims and of their draws.
 fn with_claims(alloc: Global, f: &AssertionFile, left: Left) -> Result<AssertionFile, Memory>
+    requires some { 1 ≤ length left.claims.items }
     requires claims { All (IsSoundClaim (candidate_count f.now) f.now.records) left.claims.items }
     requires each { IfSome f.now.plan (λ _.
         length left.draws.items ≡ length left.claims.items) }
     requires draws { IfSome f.now.plan (λ _.
         All (λ draws. IfSome draws IsDrawCount) left.draws.items) }
     ensures { IfOk result (λ file. file ≡ record f.now {
+      margin = margin_left f.now left.claims.items;
       claims = left.claims.items;
       plan = option_map (with_draws left.draws.items) f.now.plan;
     }) }
@@ -279,15 +268,16 @@ fn with_claims(alloc: Global, f: &AssertionFile, left: Left) -> Result<Assertion
         candidates,
         records: f.records(),
         winner: f.winner(),
-        margin: f.margin(),
-        order: *f.order(),
+        margin: margin_left(f, &left.claims),
+        order: f.order().copied(),
         claims: left.claims,
         plan: plan_with(f.plan(), left.draws),
     }))
 }
 
 /// The file without the claims that can go, and without their draws. They are tried from the last to the first: a claim is dropped
-/// exactly where `covered`, at such a budget, says of those that are left without it that they cover. All else of the file stays.
+/// exactly where `covered`, at such a budget, says of those that are left without it that they cover. All else of the file stays, but for
+/// the margin of a file without an order: it's the smallest of those that are left.
 ///
 /// `Spent` or `SpentSets` comes exactly at the first trial for which `covered` says so. The other error is want of memory.
 pub fn trim(alloc: Global, f: &AssertionFile, budget: Budget) -> Result<AssertionFile, TrimFault>

@@ -160,7 +160,7 @@ fn planned_draws(rt: HostRuntime) {
     }
 }
 
-// With a limit of a millionth no five draws suffice, nor do six where there is a sixth card.
+// With a limit of a millionth no five draws are enough, nor are six if there is a sixth card.
 #[test]
 fn planned_full_count(rt: HostRuntime) {
     for (from, to) in [
@@ -174,7 +174,7 @@ fn planned_full_count(rt: HostRuntime) {
     }
 }
 
-// The draws are judged last: of a file of another margin they aren't told.
+// The draws are judged last: for a file of another margin they aren't reported.
 #[test]
 fn draws_are_judged_last(rt: HostRuntime) {
     let draws = "\"draws\":5,\"kind\":\"NEB\",\"loser\":\"2\",\"margin\":5";

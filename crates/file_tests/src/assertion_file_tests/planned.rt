@@ -8,7 +8,7 @@ use std::test::Fail;
 const FIVE_BALLOTS: &str =
     "{\"assertions\":[{\"draws\":5,\"kind\":\"NEB\",\"loser\":\"2\",\"margin\":5,\"winner\":\"1\"}],\"candidates\":[\"1\",\"2\"],\"cards\":5,\"contest\":\"1\",\"gamma\":100,\"limit\":50000,\"margin\":5,\"order\":[\"1\",\"2\"],\"records\":5,\"version\":2,\"winner\":\"1\"}\n";
 
-// Whether the file with another text in place of `old` is read, and printed as it stands.
+// Whether the file with another text in place of `old` is read, and printed unchanged.
 fn stays(alloc: Global, old: &str, new: &str) -> Result<bool, AllocError> {
     let text = altered(alloc, FIVE_BALLOTS, old, new)?;
     let Ok(file) = read_file(alloc, text.as_bytes()) else {

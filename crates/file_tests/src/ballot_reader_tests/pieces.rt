@@ -4,7 +4,7 @@ use irv_tabulator::{TabFault, tabulate};
 use set_tallies::Counted;
 use std::thread::Threads;
 
-// Files that are read, and files that are refused: for a contest or a ballot, before a quote or behind one.
+// Files that are read, and files that are refused: for a contest or a ballot, before a quote or after one.
 const FILES: [&[u8]; 9] = [
     b"\xEF\xBB\xBF1,more\r\n \t\r\nContest,7,3, 1,2,3 ,winner,2\r\n7,t_1,2,,2,3\n\n7,t_2\n",
     b"1\rContest,7,2,A,B\r7,b_1,A\r \r7,b_2,B,A\r",

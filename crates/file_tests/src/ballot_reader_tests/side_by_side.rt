@@ -5,13 +5,13 @@ use irv_base::Memory;
 use std::alloc::Global;
 use std::thread::Threads;
 
-// So many ballots have more than `SIDE_BY_SIDE` bytes.
+// This many ballots have more than `SIDE_BY_SIDE` bytes.
 const BALLOTS: u32 = 450_000;
 
 // The contest's lines, which are read before any ballot is.
 const CONTEST: &[u8] = b"1\nContest,7,2,A,B\n";
 
-// A file of these ballots, their ids counted up, where the record number `at` is `odd`.
+// A file of these ballots, their ids counted up, with `odd` as the record number `at`.
 fn file_with(alloc: Global, at: u32, odd: &[u8]) -> Result<Vec<u8>, Memory> {
     let mut file = Vec::from_slice(alloc, CONTEST)?;
     for record in 3..BALLOTS + 3 {
@@ -33,7 +33,7 @@ fn file_with(alloc: Global, at: u32, odd: &[u8]) -> Result<Vec<u8>, Memory> {
     Ok(file)
 }
 
-// The votes of a file that comes in pieces of so many bytes, behind its contests, by four workers.
+// The votes of a file that comes in pieces of this many bytes, after its contests, by four workers.
 fn read_by_four<R: AllocGlobal + Threads + Sync>(
     rt: &R,
     file: &[u8],

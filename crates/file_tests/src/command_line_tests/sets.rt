@@ -13,6 +13,7 @@ fn takes_numbers_of_sets(rt: HostRuntime) -> Result<(), Fail> {
         "trial --number 7 --sets 0000000001",
         "check a b --sets=1048576",
         "trim --sets 1 a b",
+        "adopt --sets 1 a b",
         "open a.raire m.csv f.json --seed 1 --sets 8",
         "audit s.json a.raire m.csv f.json v.csv --draws 4 --sets 8",
     ];
@@ -37,6 +38,7 @@ fn takes_no_other_numbers_of_sets(rt: HostRuntime) -> Result<(), Fail> {
         "check a b --sets 0",
         "check a b --nodes 1 --sets 1",
         "trim a b --sets 1 --nodes 1",
+        "adopt a b --sets 1 --nodes 1",
         "open a.raire m.csv f.json --seed 1 --sets 8 --nodes 8",
         "audit s.json a.raire m.csv f.json v.csv --draws 4 --sets 8 --nodes 8",
         "tabulate a --sets 1",

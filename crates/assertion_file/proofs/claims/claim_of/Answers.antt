@@ -9,7 +9,7 @@ use Rattle.irv_base.proofs.Positions.{stands_at, stands_nowhere}
 use Rattle.assertion_file.proofs.claims.claim_of.Goals as goal
 
 pub returns-in_default : goal.returns-in_default
-returns-in_default c = sym (claim-none c.args.names.now c.args.records c.args.planned (view c.args.value.now) (sym c.entry_in.ensures
+returns-in_default c = sym (claim-none c.args.names.now c.args.records c.args.asked (view c.args.value.now) (sym c.entry_in.ensures
     ∙ ap (option_map stated_entry) c.in_default.is))
 
 pub returns-in_default-candidate : goal.returns-in_default-candidate
@@ -17,7 +17,7 @@ returns-in_default-candidate c =
     let names = c.args.names.now in
     let entry = stated_entry c.in-Some.entry in
     let w = stands_nowhere (λ other. is_same other entry.winner) names (sym c.candidate.ensures ∙ c.in_default-candidate.is) in
-    sym (claim-some names c.args.records c.args.planned (view c.args.value.now) entry (sym c.in-Some.ensures) ∙ no_winner names c.args.records entry w)
+    sym (claim-some names c.args.records c.args.asked (view c.args.value.now) entry (sym c.in-Some.ensures) ∙ no_winner names c.args.records entry w)
 
 pub returns-in_default-candidate-2 : goal.returns-in_default-candidate-2
 returns-in_default-candidate-2 c =
@@ -25,7 +25,7 @@ returns-in_default-candidate-2 c =
     let entry = stated_entry c.in-Some.entry in
     let w = stands_at (λ other. is_same other entry.winner) names _ [] (sym c.in-Some-candidate.ensures) in
     let l = stands_nowhere (λ other. is_same other entry.loser) names (sym c.candidate-2.ensures ∙ c.in_default-candidate-2.is) in
-    sym (claim-some names c.args.records c.args.planned (view c.args.value.now) entry (sym c.in-Some.ensures) ∙ no_loser names c.args.records entry w.among l)
+    sym (claim-some names c.args.records c.args.asked (view c.args.value.now) entry (sym c.in-Some.ensures) ∙ no_loser names c.args.records entry w.among l)
 
 pub returns-then-eq : goal.returns-then-eq
 returns-then-eq c =
@@ -34,7 +34,7 @@ returns-then-eq c =
     let w = stands_at (λ other. is_same other entry.winner) names _ [] (sym c.in-Some-candidate.ensures) in
     let l = stands_at (λ other. is_same other entry.loser) names _ [] (sym c.in-Some-candidate-2.ensures) in
     let same : is_same entry.winner entry.loser ≡ _ = sym c.eq.ensures ∙ c.if-eq.true in
-    sym (claim-some names c.args.records c.args.planned (view c.args.value.now) entry (sym c.in-Some.ensures) ∙ itself names c.args.records entry w.among l.among same)
+    sym (claim-some names c.args.records c.args.asked (view c.args.value.now) entry (sym c.in-Some.ensures) ∙ itself names c.args.records entry w.among l.among same)
 
 pub returns-in_err-assertion : goal.returns-in_err-assertion
 returns-in_err-assertion c =
@@ -46,7 +46,7 @@ returns-in_err-assertion c =
     record { winner = w.among; loser = l.among; differ = sym c.eq.ensures ∙ c.if-eq.false; w_is = w.number; l_is = l.number } in
     let p = err_from_is_err_and c.from_residual.result c.from_residual.ensures.1 in
     p.1 ∙ ap Err p.2
-    ∙ sym (claim-some names c.args.records c.args.planned (view c.args.value.now) entry (sym c.in-Some.ensures)
+    ∙ sym (claim-some names c.args.records c.args.asked (view c.args.value.now) entry (sym c.in-Some.ensures)
     ∙ no_assertion names c.args.records entry _ _ _ pair (sym c.in_err-assertion.ensures))
 
 pub returns-then-not-are_counts : goal.returns-then-not-are_counts
@@ -57,7 +57,7 @@ returns-then-not-are_counts c =
     let l = stands_at (λ other. is_same other entry.loser) names _ [] (sym c.in-Some-candidate-2.ensures) in
     let pair : Pair names entry c.in-Some-candidate.w c.in-Some-candidate-2.l =
     record { winner = w.among; loser = l.among; differ = sym c.eq.ensures ∙ c.if-eq.false; w_is = w.number; l_is = l.number } in
-    sym (claim-some names c.args.records c.args.planned (view c.args.value.now) entry (sym c.in-Some.ensures)
+    sym (claim-some names c.args.records c.args.asked (view c.args.value.now) entry (sym c.in-Some.ensures)
     ∙ no_counts names c.args.records entry _ _ _ pair (sym c.in_ok-assertion.ensures) (sym c.are_counts.ensures ∙ c.if-not-are_counts.true))
 
 pub returns : goal.returns
@@ -68,5 +68,5 @@ returns c =
     let l = stands_at (λ other. is_same other entry.loser) names _ [] (sym c.in-Some-candidate-2.ensures) in
     let pair : Pair names entry c.in-Some-candidate.w c.in-Some-candidate-2.l =
     record { winner = w.among; loser = l.among; differ = sym c.eq.ensures ∙ c.if-eq.false; w_is = w.number; l_is = l.number } in
-    sym (claim-some names c.args.records c.args.planned (view c.args.value.now) entry (sym c.in-Some.ensures)
+    sym (claim-some names c.args.records c.args.asked (view c.args.value.now) entry (sym c.in-Some.ensures)
     ∙ a_claim names c.args.records entry _ _ _ pair (sym c.in_ok-assertion.ensures) (sym c.are_counts.ensures ∙ c.if-not-are_counts.false))

@@ -8,12 +8,12 @@ pub returns-in_err-read-clause-refused : goal.returns-in_err-read-clause-refused
 returns-in_err-read-clause-refused c =
     let p = err_from_is_err_and c.from_residual.result c.from_residual.ensures.1 in
     rw (p.1, p.2)
-    (breaks c.args.names.now c.args.records c.args.planned c.loop-i.i c.loop-i.claims.items c.args.values.now c.index-values-i.result _ c.loop-i.invariant c.loop-i-test.true
+    (breaks c.args.names.now c.args.records c.args.asked c.loop-i.i c.loop-i.claims.items c.args.values.now c.index-values-i.result _ c.loop-i.invariant c.loop-i-test.true
     c.index-values-i.is c.in_err-read.ensures.refused)
 
 pub loop-i-preserved : goal.loop-i-preserved
 loop-i-preserved c =
-    subst (λ claims. SoFar c.args.names.now c.args.records c.args.planned (c.loop-i.i + 1) claims (map view c.args.values.now)) (sym c.in_ok-push.ensures.items)
-    (goes_on c.args.names.now c.args.records c.args.planned c.loop-i.i c.loop-i.claims.items c.args.values.now c.index-values-i.result
+    subst (λ claims. SoFar c.args.names.now c.args.records c.args.asked (c.loop-i.i + 1) claims (map view c.args.values.now)) (sym c.in_ok-push.ensures.items)
+    (goes_on c.args.names.now c.args.records c.args.asked c.loop-i.i c.loop-i.claims.items c.args.values.now c.index-values-i.result
     c.in_ok-read.read c.loop-i.invariant
     c.loop-i-test.true c.index-values-i.is c.in_ok-read.ensures.read)

@@ -1,16 +1,16 @@
 use Rattle.std.proofs.Common.{◌∙◌, Ok, All, length, map, sym, ap, subst, arith}
-use Rattle.std.specs.Prelude.{is_some, option_map, IfSome}
+use Rattle.std.specs.Prelude.{option_map, IfSome}
 use Rattle.std.proofs.lemmas.Result.{err_from_is_err_and}
 use Rattle.serde_json.specs.View.{view}
 use Rattle.irv_base.specs.Names.{all_differ}
-use Rattle.irv_base.specs.Orders.{is_order}
 use Rattle.assertion_file.specs.Content.{IsSoundClaim, IsSoundPlan}
 use Rattle.file_fault.specs.Refusals.{Refuses}
-use Rattle.assertion_file.specs.Reading.{claim_in, content_of, content_with, plan_with, ◌>>=◌}
+use Rattle.assertion_file.specs.Reading.{claim_in, content_of, content_with, is_order_if, plan_with, ◌>>=◌}
+use Rattle.assertion_file.specs.Stated.{draws_asked}
 use Rattle.assertion_file.specs.Views.{stated_heading}
 use Rattle.assertion_file.proofs.Headings.{content-none, content-kept, content-is, refused_heading, refused_claims, sound}
 use Rattle.assertion_file.proofs.SoundClaims.{claims-sound}
-use Rattle.assertion_file.proofs.SoundFiles.{sound-claims, plan-sound}
+use Rattle.assertion_file.proofs.SoundFiles.{order-is, sound-claims, plan-sound}
 use Rattle.assertion_file.proofs.read.content_of.Goals as goal
 
 pub returns-in_default-clause-refused : goal.returns-in_default-clause-refused
@@ -63,13 +63,14 @@ new-requires-clause-margin c = (sound (stated_heading c.in-Some.heading) c.in_ok
 pub new-requires-clause-order : goal.new-requires-clause-order
 new-requires-clause-order c =
     let s = sound (stated_heading c.in-Some.heading) c.in_ok-named.ensures.kept in
-    ap (λ ids. is_order (length ids) c.in_ok-named.named.order) c.in_ok-named.ensures.candidates
-    ∙ ap (is_order (length (stated_heading c.in-Some.heading).candidates)) c.in_ok-named.ensures.order ∙ s.order
+    order-is (length c.in_ok-named.named.candidates.items) c.in_ok-named.named.order
+    (ap (λ ids. is_order_if (length ids) c.in_ok-named.named.order) c.in_ok-named.ensures.candidates
+    ∙ ap (is_order_if (length (stated_heading c.in-Some.heading).candidates)) c.in_ok-named.ensures.order ∙ s.order)
 
 pub new-requires-clause-claims : goal.new-requires-clause-claims
 new-requires-clause-claims c =
     let heading = stated_heading c.in-Some.heading in
-    let all = claims-sound heading.candidates heading.records (is_some heading.terms) 1 heading.assertions c.in_ok-planned.planned.items
+    let all = claims-sound heading.candidates heading.records (draws_asked heading.version heading.terms) 1 heading.assertions c.in_ok-planned.planned.items
     c.in_ok-planned.ensures.read in
     let claims = sym (c.in_ok-claims.ensures ∙ ap (map claim_in) c.deref.ensures.value) in
     subst (λ ids. All (IsSoundClaim (length ids) heading.records) c.in_ok-claims.claims.items) (sym c.in_ok-named.ensures.candidates)
@@ -80,7 +81,7 @@ new-requires-clause-plan c =
     let heading = stated_heading c.in-Some.heading in
     let s = sound heading c.in_ok-named.ensures.kept in
     let planned = c.in_ok-planned.planned.items in
-    let all = claims-sound heading.candidates heading.records (is_some heading.terms) 1 heading.assertions planned c.in_ok-planned.ensures.read in
+    let all = claims-sound heading.candidates heading.records (draws_asked heading.version heading.terms) 1 heading.assertions planned c.in_ok-planned.ensures.read in
     let claims = sym (c.in_ok-claims.ensures ∙ ap (map claim_in) c.deref.ensures.value) in
     let plan = sym (c.in_ok-plan.ensures ∙ ap (plan_with heading.terms) c.deref-2.ensures.value) in
     subst (λ claims. IfSome c.in_ok-plan.plan (IsSoundPlan heading.records (length claims))) claims

@@ -15,27 +15,25 @@ returns-in_err-chosen-clause-refused c =
     let p = err_from_is_err_and c.from_residual-in_err-chosen.result c.from_residual-in_err-chosen.ensures.1 in
     rw (p.1, p.2) (named-refused (stated_heading c.args.heading.now) _ c.in_ok-ids.ensures.kept c.in_err-chosen.ensures.refused)
 
-pub returns-in_default-clause-refused : goal.returns-in_default-clause-refused
-returns-in_default-clause-refused c =
+pub returns-in_err-order-clause-refused : goal.returns-in_err-order-clause-refused
+returns-in_err-order-clause-refused c =
     let heading = stated_heading c.args.heading.now in
     let has : HasNamed heading = record { ids = c.in_ok-ids.ensures.kept; named = c.in_ok-chosen.ensures.kept } in
-    let order = same_order heading _ _ (c.as_slice-names.ensures.value ∙ c.in_ok-ids.ensures.candidates) (c.as_slice.ensures.value
-    ∙ c.in_ok-chosen.ensures.numbers) in
-    refuse _ F5 _ (no_order heading has (order ∙ c.in_default.ensures.none)) c.refused.ensures
+    let order = same_order heading _ _ (c.as_slice-names.ensures.value ∙ c.in_ok-ids.ensures.candidates) c.in_ok-chosen.ensures.numbers in
+    let p = err_from_is_err_and c.from_residual-in_err-order.result c.from_residual-in_err-order.ensures.1 in
+    rw (p.1, p.2) (refuse _ F5 _ (no_order heading has (order ∙ c.in_err-order.ensures.none)) c.in_err-order.ensures.rule)
 
 pub returns-then-not-are_counts-clause-refused : goal.returns-then-not-are_counts-clause-refused
 returns-then-not-are_counts-clause-refused c =
     let heading = stated_heading c.args.heading.now in
     let has : HasNamed heading = record { ids = c.in_ok-ids.ensures.kept; named = c.in_ok-chosen.ensures.kept } in
-    let order = same_order heading _ _ (c.as_slice-names.ensures.value ∙ c.in_ok-ids.ensures.candidates) (c.as_slice.ensures.value
-    ∙ c.in_ok-chosen.ensures.numbers) in
+    let order = same_order heading _ _ (c.as_slice-names.ensures.value ∙ c.in_ok-ids.ensures.candidates) (c.in_ok-order.ensures.order ∙ c.in_ok-chosen.ensures.numbers) in
     let counts = sym c.are_counts.ensures ∙ c.if-not-are_counts.true in
-    refuse _ F6 _ (no_counts heading has (order ∙ c.in-Some.ensures.valid) counts) c.refused-then-not-are_counts.ensures
+    refuse _ F6 _ (no_counts heading has (order ∙ c.in_ok-order.ensures.valid) counts) c.refused.ensures
 
 pub returns-clause-kept : goal.returns-clause-kept
 returns-clause-kept c =
     let heading = stated_heading c.args.heading.now in
     let has : HasNamed heading = record { ids = c.in_ok-ids.ensures.kept; named = c.in_ok-chosen.ensures.kept } in
-    let order = same_order heading _ _ (c.as_slice-names.ensures.value ∙ c.in_ok-ids.ensures.candidates) (c.as_slice.ensures.value
-    ∙ c.in_ok-chosen.ensures.numbers) in
-    all_kept heading has (order ∙ c.in-Some.ensures.valid) (sym c.are_counts.ensures ∙ c.if-not-are_counts.false)
+    let order = same_order heading _ _ (c.as_slice-names.ensures.value ∙ c.in_ok-ids.ensures.candidates) (c.in_ok-order.ensures.order ∙ c.in_ok-chosen.ensures.numbers) in
+    all_kept heading has (order ∙ c.in_ok-order.ensures.valid) (sym c.are_counts.ensures ∙ c.if-not-are_counts.false)

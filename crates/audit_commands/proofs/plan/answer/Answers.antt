@@ -12,6 +12,7 @@ use Rattle.audit_commands.specs.Plan.{after_manifest}
 use Rattle.cli_base.specs.Begun.{HasCome}
 use Rattle.std.proofs.lemmas.Result.{err_from_is_err_and}
 use Rattle.cli_base.proofs.Begun.{stopped_at}
+use Rattle.cli_base.proofs.Faults.{told_on}
 use Rattle.audit_commands.proofs.plan.answer.Goals as goal
 
 -- the manifest is read, and then the assertions
@@ -20,11 +21,14 @@ returns-clause-due g c =
     let task = c.args.task.now in
     let judged = λ (bytes : List ℕ). told (refused_manifest task.manifest) (manifest_of bytes) in
     read_on _ _ _ _ c.in_ok-bytes.bytes.items judged (λ bytes batches. after_manifest task (length (cards_of batches))) c.in_ok-bytes.ensures.begun c.in_ok-bytes.ensures.read _ _
-    c.in_ok-batches.batches (due c.after_manifest.result) c.in_ok-bytes.ensures.held c.in_ok-bytes.ensures.later c.after_manifest.ensures.later
+    c.in_ok-batches.batches (due c.after_manifest.result) c.in_ok-bytes.ensures.held c.in_ok-bytes.ensures.faults.never_fewer c.after_manifest.ensures.faults.never_fewer
     (ap judged (sym c.deref.ensures.value) ∙ c.in_ok-batches.ensures)
     (subst (λ cards. HasCome (ByDesk (g.D.Desk.held c.bytes_of.new.desk)
     (Rose (g.D.Desk.faults c.bytes_of.new.desk) (g.D.Desk.faults c.after_manifest.new.desk)))
     (g.D.Desk.served c.bytes_of.new.desk) (g.D.Desk.served c.after_manifest.new.desk) (Runs (after_manifest task cards)) (due c.after_manifest.result)) c.cards.ensures.all c.after_manifest.ensures.due)
+
+pub returns-clause-faults : goal.returns-clause-faults
+returns-clause-faults g c = told_on c.in_ok-bytes.ensures.faults c.after_manifest.ensures.faults
 
 pub returns-clause-served : goal.returns-clause-served
 returns-clause-served g c = accounted_on _ _ _ _ c.in_ok-bytes.ensures.served c.after_manifest.ensures.served

@@ -4,6 +4,6 @@ use Rattle.ballot_reader.proofs.contest.names_of.Given as goal
 
 abbrev pub invariant-loop : goal.invariant-loop
 invariant-loop l = record {
-  so_far : NamesSoFar (take l.n l.fn.fields) l.names.keys (take (l.n - l.counter) l.fields);
+  so_far : NamesSoFar (take l.n l.fn.fields) l.names (take (l.n - l.counter) l.fields);
   enough : l.n - l.counter ≤ length l.fields;
 }

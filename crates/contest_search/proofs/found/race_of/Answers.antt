@@ -22,4 +22,4 @@ tie_of-requires-clause-undecided g c =
     undecided_at_0 c.args.votes.now c.args.counted.now.bag c.args.tabulated.now c.requires.counted c.in-Ok.end c.in-Ok.ensures.best c.if-end-eq0.true
 
 pub returns-then-end-eq0 : goal.returns-then-end-eq0
-returns-then-end-eq0 g c = c.tie_of.ensures (Nodes c.args.nodes) tt
+returns-then-end-eq0 g c = c.tie_of.ensures.found (Nodes c.args.nodes) tt

@@ -28,7 +28,7 @@ pub returns-in-Undecided : goal.returns-in-Undecided
 returns-in-Undecided c =
     let bag = c.args.counted.now.bag in
     let t = c.args.tabulated.now in
-    c.tie_of.ensures _
+    c.tie_of.ensures.found _
     (told_by_sets c.args.votes.now bag t c.requires.counted c.args.sets
     (λ records h. subst (IsEnd bag.n records t c.args.sets) c.in-Undecided.is (c.in-Ok.ensures.end records h)))
 

@@ -13,6 +13,7 @@ use Rattle.contests_command.specs.Contests.{AreContests, after_ballots}
 use Rattle.contests_command.proofs.Read.{contests_are}
 use Rattle.cli_base.specs.Begun.{HasCome}
 use Rattle.cli_base.proofs.Begun.{stopped_at}
+use Rattle.cli_base.proofs.Faults.{told_on}
 use Rattle.contests_command.proofs.contests.answer.Goals as goal
 
 pub returns-clause-due : goal.returns-clause-due
@@ -20,11 +21,14 @@ returns-clause-due g c =
     let task = c.args.task.now in
     let judged = λ (bytes : List ℕ). told (refused_ballots task.ballots) (contests_of bytes) in
     read_on _ _ _ _ c.in_ok-bytes.bytes.items judged (λ bytes list. after_ballots task list) c.in_ok-bytes.ensures.begun c.in_ok-bytes.ensures.read _ _
-    c.in_ok-list.list.items (due c.after_ballots.result) c.in_ok-bytes.ensures.held c.in_ok-bytes.ensures.later c.after_ballots.ensures.later
+    c.in_ok-list.list.items (due c.after_ballots.result) c.in_ok-bytes.ensures.held c.in_ok-bytes.ensures.faults.never_fewer c.after_ballots.ensures.faults.never_fewer
     (ap judged (sym c.deref.ensures.value) ∙ c.in_ok-list.ensures.read)
     (subst (λ list. HasCome (ByDesk (g.D.Desk.held c.bytes_of.new.desk) (Rose (g.D.Desk.faults c.bytes_of.new.desk)
     (g.D.Desk.faults c.after_ballots.new.desk))) (g.D.Desk.served c.bytes_of.new.desk) (g.D.Desk.served c.after_ballots.new.desk)
     (Runs (after_ballots task list)) (due c.after_ballots.result)) c.deref-2.ensures.value c.after_ballots.ensures.due)
+
+pub returns-clause-faults : goal.returns-clause-faults
+returns-clause-faults g c = told_on c.in_ok-bytes.ensures.faults c.after_ballots.ensures.faults
 
 pub returns-clause-served : goal.returns-clause-served
 returns-clause-served g c = accounted_on _ _ _ _ c.in_ok-bytes.ensures.served c.after_ballots.ensures.served

@@ -5,6 +5,7 @@ use Rattle.plurality_commands.specs.AuditPlurality.{after_session, plural_sessio
 use Rattle.std.proofs.lemmas.Result.{err_from_is_err_and}
 use Rattle.cli_base.proofs.Begun.{stopped_at}
 use Rattle.input_files.specs.Judged.{IsStopped}
+use Rattle.cli_base.proofs.Faults.{told_on}
 use Rattle.plurality_commands.proofs.audit_plurality.answer.Goals as goal
 
 pub returns-clause-due : goal.returns-clause-due
@@ -13,8 +14,11 @@ returns-clause-due g c =
     let judged = plural_session task in
     read_on _ _ _ _ c.in_ok-bytes.bytes.items judged (λ bytes. after_session task) c.in_ok-bytes.ensures.begun c.in_ok-bytes.ensures.read _ _ c.in_ok-session.session
     (due c.after_session.result)
-    c.in_ok-bytes.ensures.held c.in_ok-bytes.ensures.later c.after_session.ensures.later
+    c.in_ok-bytes.ensures.held c.in_ok-bytes.ensures.faults.never_fewer c.after_session.ensures.faults.never_fewer
     (ap judged (sym c.deref.ensures.value) ∙ c.in_ok-session.ensures.read) c.after_session.ensures.due
+
+pub returns-clause-faults : goal.returns-clause-faults
+returns-clause-faults g c = told_on c.in_ok-bytes.ensures.faults c.after_session.ensures.faults
 
 pub returns-in_err-bytes-clause-due : goal.returns-in_err-bytes-clause-due
 returns-in_err-bytes-clause-due g c =

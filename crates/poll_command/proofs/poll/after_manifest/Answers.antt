@@ -11,6 +11,7 @@ use Rattle.input_files.proofs.Going.{raised, read_last, read_on, read_stopped}
 use Rattle.poll_command.specs.Poll.{after_assertions, after_cover, uncovered}
 use Rattle.poll_command.proofs.Ending.{ended_by, gone_on}
 use Rattle.cli_base.proofs.Begun.{stopped_at, memory_now}
+use Rattle.cli_base.proofs.Faults.{told_on}
 use Rattle.poll_command.proofs.poll.after_manifest.Goals as goal
 
 pub returns-in_err-answer-clause-served : goal.returns-in_err-answer-clause-served
@@ -45,10 +46,13 @@ returns-clause-due g c =
     let file = c.in_ok-file.file in
     let judged = λ (bytes : List ℕ). told (refused_assertions task.assertions) (assertion_file_of bytes) in
     read_on _ _ _ _ c.in_ok-bytes.bytes.items judged (λ bytes. after_assertions task c.args.batches.now) c.in_ok-bytes.ensures.begun c.in_ok-bytes.ensures.read _ _ file
-    (due c.after_cover.result) c.in_ok-bytes.ensures.held c.in_ok-bytes.ensures.later c.after_cover.ensures.later
+    (due c.after_cover.result) c.in_ok-bytes.ensures.held c.in_ok-bytes.ensures.faults.never_fewer c.after_cover.ensures.faults.never_fewer
     (ap judged (sym c.deref.ensures.value) ∙ c.in_ok-file.ensures)
     (gone_on (uncovered task.nodes file) (after_cover task c.args.batches.now file) _ (due c.after_cover.result)
     (c.in_ok-answer.ensures.covered ∙ ap is_none c.in_default.is) c.after_cover.ensures.due)
+
+pub returns-clause-faults : goal.returns-clause-faults
+returns-clause-faults g c = told_on c.in_ok-bytes.ensures.faults c.after_cover.ensures.faults
 
 pub returns-clause-served : goal.returns-clause-served
 returns-clause-served g c = accounted_on _ _ _ _ c.in_ok-bytes.ensures.served c.after_cover.ensures.served

@@ -8,6 +8,7 @@ use Rattle.input_files.proofs.Going.{read_on, read_stopped}
 use Rattle.poll_command.specs.Poll.{after_manifest}
 use Rattle.std.proofs.lemmas.Result.{err_from_is_err_and}
 use Rattle.cli_base.proofs.Begun.{stopped_at}
+use Rattle.cli_base.proofs.Faults.{told_on}
 use Rattle.poll_command.proofs.poll.answer.Goals as goal
 
 -- the manifest is read, and then the assertions
@@ -16,8 +17,11 @@ returns-clause-due g c =
     let task = c.args.task.now in
     let judged = λ (bytes : List ℕ). told (refused_manifest task.manifest) (manifest_of bytes) in
     read_on _ _ _ _ c.in_ok-bytes.bytes.items judged (λ bytes batches. after_manifest task batches) c.in_ok-bytes.ensures.begun c.in_ok-bytes.ensures.read _ _
-    c.in_ok-batches.batches (due c.after_manifest.result) c.in_ok-bytes.ensures.held c.in_ok-bytes.ensures.later c.after_manifest.ensures.later
+    c.in_ok-batches.batches (due c.after_manifest.result) c.in_ok-bytes.ensures.held c.in_ok-bytes.ensures.faults.never_fewer c.after_manifest.ensures.faults.never_fewer
     (ap judged (sym c.deref.ensures.value) ∙ c.in_ok-batches.ensures) c.after_manifest.ensures.due
+
+pub returns-clause-faults : goal.returns-clause-faults
+returns-clause-faults g c = told_on c.in_ok-bytes.ensures.faults c.after_manifest.ensures.faults
 
 pub returns-clause-served : goal.returns-clause-served
 returns-clause-served g c = accounted_on _ _ _ _ c.in_ok-bytes.ensures.served c.after_manifest.ensures.served

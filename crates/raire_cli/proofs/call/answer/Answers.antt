@@ -7,7 +7,7 @@ use Rattle.command_line.specs.Words.{texts}
 use Rattle.raire_cli.proofs.Begun.{command_come, no_line_come, nothing_begun}
 use Rattle.raire_cli.proofs.call.answer.Goals as goal
 
--- where the words want for memory no file is begun
+-- if the words run out of memory, no file is begun
 pub returns-in_err-command-clause-due : goal.returns-in_err-command-clause-due
 returns-in_err-command-clause-due g c =
     let memory : due c.from_residual.result ≡ out_of_memory = search rules in

@@ -8,6 +8,7 @@ use Rattle.input_files.specs.Judged.{IsStopped}
 use Rattle.session_rounds.proofs.OneRound.{manifest-only}
 use Rattle.input_files.proofs.Going.{read_on, read_stopped, stopped_accounted}
 use Rattle.cli_base.proofs.Begun.{stopped_at}
+use Rattle.cli_base.proofs.Faults.{told_on}
 use Rattle.session_commands.proofs.audit.after_ballots.Goals as goal
 
 pub returns-clause-due : goal.returns-clause-due
@@ -16,8 +17,11 @@ returns-clause-due g c =
     let judged = same_manifest task.ballots task.manifest c.args.session c.args.ballots.now in
     read_on _ _ _ _ c.in_ok-bytes.bytes.items judged (λ bytes. after_manifest task c.args.session c.args.ballots.now) c.in_ok-bytes.ensures.begun c.in_ok-bytes.ensures.read _ _
     c.in_ok-cards.cards.manifest (due c.after_manifest.result)
-    c.in_ok-bytes.ensures.held c.in_ok-bytes.ensures.later c.after_manifest.ensures.later
+    c.in_ok-bytes.ensures.held c.in_ok-bytes.ensures.faults.never_fewer c.after_manifest.ensures.faults.never_fewer
     (ap judged (sym c.deref.ensures.value) ∙ c.in_ok-cards.ensures.read) c.after_manifest.ensures.due
+
+pub returns-clause-faults : goal.returns-clause-faults
+returns-clause-faults g c = told_on c.in_ok-bytes.ensures.faults c.after_manifest.ensures.faults
 
 pub returns-clause-served : goal.returns-clause-served
 returns-clause-served g c = accounted_on _ _ _ _ c.in_ok-bytes.ensures.served c.after_manifest.ensures.served

@@ -10,6 +10,7 @@ use Rattle.session_commands.proofs.Audits.{assertions-only}
 use Rattle.session_commands.proofs.Checked.{accepted_on, checked_now}
 use Rattle.input_files.proofs.Going.{read_last, read_on, read_stopped, raised, stopped_accounted}
 use Rattle.cli_base.proofs.Begun.{memory_now, stopped_at}
+use Rattle.cli_base.proofs.Faults.{told_on}
 use Rattle.session_commands.proofs.audit.after_manifest.Goals as goal
 
 pub returns-in_err-file-clause-due : goal.returns-in_err-file-clause-due
@@ -76,8 +77,11 @@ returns-clause-due g c =
     let yes = c.in_ok-answer.ensures.accepted ∙ ap is_none c.in_default.is in
     read_on _ _ _ _ c.in_ok-bytes.bytes.items judged (λ bytes. after_assertions task session ballots batches) c.in_ok-bytes.ensures.begun c.in_ok-bytes.ensures.read _ _ file
     (due c.after_check.result)
-    c.in_ok-bytes.ensures.held c.in_ok-bytes.ensures.later c.after_check.ensures.later is
+    c.in_ok-bytes.ensures.held c.in_ok-bytes.ensures.faults.never_fewer c.after_check.ensures.faults.never_fewer is
     (accepted_on task.budget ballots file _ (after_check task session ballots batches file) (due c.after_check.result) yes c.after_check.ensures.due)
+
+pub returns-clause-faults : goal.returns-clause-faults
+returns-clause-faults g c = told_on c.in_ok-bytes.ensures.faults c.after_check.ensures.faults
 
 pub returns-clause-served : goal.returns-clause-served
 returns-clause-served g c = accounted_on _ _ _ _ c.in_ok-bytes.ensures.served c.after_check.ensures.served

@@ -8,6 +8,7 @@ use Rattle.input_files.specs.Judged.{IsStopped}
 use Rattle.session_rounds.proofs.OneRound.{ballots-only}
 use Rattle.input_files.proofs.Going.{read_on, read_stopped, stopped_accounted}
 use Rattle.cli_base.proofs.Begun.{stopped_at}
+use Rattle.cli_base.proofs.Faults.{told_on}
 use Rattle.session_commands.proofs.audit.after_session.Goals as goal
 
 pub returns-clause-due : goal.returns-clause-due
@@ -16,8 +17,11 @@ returns-clause-due g c =
     let judged = same_ballots task.ballots c.args.session in
     read_on _ _ _ _ c.in_ok-bytes.bytes.items judged (λ bytes. after_ballots task c.args.session) c.in_ok-bytes.ensures.begun c.in_ok-bytes.ensures.read _ _ c.in_ok-ballots.ballots
     (due c.after_ballots.result)
-    c.in_ok-bytes.ensures.held c.in_ok-bytes.ensures.later c.after_ballots.ensures.later
+    c.in_ok-bytes.ensures.held c.in_ok-bytes.ensures.faults.never_fewer c.after_ballots.ensures.faults.never_fewer
     (ap judged (sym c.deref.ensures.value) ∙ c.in_ok-ballots.ensures) c.after_ballots.ensures.due
+
+pub returns-clause-faults : goal.returns-clause-faults
+returns-clause-faults g c = told_on c.in_ok-bytes.ensures.faults c.after_ballots.ensures.faults
 
 pub returns-clause-served : goal.returns-clause-served
 returns-clause-served g c = accounted_on _ _ _ _ c.in_ok-bytes.ensures.served c.after_ballots.ensures.served

@@ -7,6 +7,7 @@ use Rattle.input_files.specs.Judged.{IsStopped}
 use Rattle.session_rounds.proofs.OneRound.{session-only}
 use Rattle.input_files.proofs.Going.{read_on, read_stopped, stopped_accounted}
 use Rattle.cli_base.proofs.Begun.{stopped_at}
+use Rattle.cli_base.proofs.Faults.{told_on}
 use Rattle.session_commands.proofs.audit.answer.Goals as goal
 
 pub returns-clause-due : goal.returns-clause-due
@@ -15,8 +16,11 @@ returns-clause-due g c =
     let judged = session_to_go_on task.session task.draws in
     read_on _ _ _ _ c.in_ok-bytes.bytes.items judged (λ bytes. after_session task) c.in_ok-bytes.ensures.begun c.in_ok-bytes.ensures.read _ _ c.in_ok-session.session
     (due c.after_session.result)
-    c.in_ok-bytes.ensures.held c.in_ok-bytes.ensures.later c.after_session.ensures.later
+    c.in_ok-bytes.ensures.held c.in_ok-bytes.ensures.faults.never_fewer c.after_session.ensures.faults.never_fewer
     (ap judged (sym c.deref.ensures.value) ∙ c.in_ok-session.ensures.read) c.after_session.ensures.due
+
+pub returns-clause-faults : goal.returns-clause-faults
+returns-clause-faults g c = told_on c.in_ok-bytes.ensures.faults c.after_session.ensures.faults
 
 pub returns-in_err-session-clause-due : goal.returns-in_err-session-clause-due
 returns-in_err-session-clause-due g c =

@@ -11,6 +11,7 @@ use Rattle.cli_base.specs.Begun.{HasCome}
 use Rattle.std.proofs.lemmas.Result.{err_from_is_err_and}
 use Rattle.cli_base.proofs.Begun.{stopped_at}
 use Rattle.input_files.specs.Judged.{IsStopped}
+use Rattle.cli_base.proofs.Faults.{told_on}
 use Rattle.session_commands.proofs.open.after_ballots.Goals as goal
 
 pub returns-clause-due : goal.returns-clause-due
@@ -21,7 +22,7 @@ returns-clause-due g c =
     read_on _ _ _ _ c.in_ok-bytes.bytes.items judged
     (λ bytes batches. after_manifest task ballots batches (record { ballots = c.args.digest; manifest = sha256 bytes }))
     c.in_ok-bytes.ensures.begun c.in_ok-bytes.ensures.read _ _ c.in_ok-cards.cards.manifest
-    (due c.after_manifest.result) c.in_ok-bytes.ensures.held c.in_ok-bytes.ensures.later c.after_manifest.ensures.later
+    (due c.after_manifest.result) c.in_ok-bytes.ensures.held c.in_ok-bytes.ensures.faults.never_fewer c.after_manifest.ensures.faults.never_fewer
     (ap judged (sym c.deref.ensures.value) ∙ c.in_ok-cards.ensures.read)
     (subst (λ digest. HasCome (ByDesk (g.D.Desk.held c.bytes_of.new.desk)
     (Rose (g.D.Desk.faults c.bytes_of.new.desk) (g.D.Desk.faults c.after_manifest.new.desk)))
@@ -29,6 +30,9 @@ returns-clause-due g c =
     (Runs (after_manifest task ballots c.in_ok-cards.cards.manifest (record { ballots = c.args.digest; manifest = digest })))
     (due c.after_manifest.result))
     (c.digest_of.ensures ∙ ap sha256 c.deref-2.ensures.value) c.after_manifest.ensures.due)
+
+pub returns-clause-faults : goal.returns-clause-faults
+returns-clause-faults g c = told_on c.in_ok-bytes.ensures.faults c.after_manifest.ensures.faults
 
 pub returns-clause-served : goal.returns-clause-served
 returns-clause-served g c = accounted_on _ _ _ _ c.in_ok-bytes.ensures.served c.after_manifest.ensures.served

@@ -8,6 +8,7 @@ use Rattle.cli_base.proofs.Steps.{accounted_on}
 use Rattle.input_files.specs.Votes.{AreVotes, ballots_said}
 use Rattle.input_files.proofs.Going.{read_on, stopped_early, votes_stopped}
 use Rattle.trim_command.specs.Trim.{after_ballots}
+use Rattle.cli_base.proofs.Faults.{told_on}
 use Rattle.trim_command.proofs.trim.answer.Goals as goal
 
 -- the ballots are read, and then the assertions
@@ -17,9 +18,12 @@ returns-clause-due g c =
     let (bytes, there, read) = c.in_ok-votes.ensures.votes in
     let (ballots, said, is) = read in
     read_on _ _ _ _ bytes (ballots_said task.ballots task.contest) (λ bytes ballots. after_ballots task.assertions task.budget ballots)
-    c.in_ok-votes.ensures.begun there _ _ ballots (due c.after_votes.result) c.in_ok-votes.ensures.held c.in_ok-votes.ensures.later
-    c.after_votes.ensures.later (ap (λ asked. ballots_said task.ballots asked bytes) (sym c.as_ref.ensures.value) ∙ said)
+    c.in_ok-votes.ensures.begun there _ _ ballots (due c.after_votes.result) c.in_ok-votes.ensures.held c.in_ok-votes.ensures.faults.never_fewer
+    c.after_votes.ensures.faults.never_fewer (ap (λ asked. ballots_said task.ballots asked bytes) (sym c.as_ref.ensures.value) ∙ said)
     (c.after_votes.ensures.due ballots is)
+
+pub returns-clause-faults : goal.returns-clause-faults
+returns-clause-faults g c = told_on c.in_ok-votes.ensures.faults c.after_votes.ensures.faults
 
 pub returns-clause-served : goal.returns-clause-served
 returns-clause-served g c = accounted_on _ _ _ _ c.in_ok-votes.ensures.served c.after_votes.ensures.served

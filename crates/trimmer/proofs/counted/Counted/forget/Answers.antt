@@ -1,4 +1,4 @@
-use Rattle.std.proofs.Common.{◌≡◌, ◌-◌, ◌++◌, Some, cond, subst, arith}
+use Rattle.std.proofs.Common.{◌≡◌, ◌-◌, Some, cond, subst, arith}
 use Rattle.std.specs.BTreeMap.{get}
 use Rattle.std.specs.Ordering.{is_eq}
 use Rattle.assertions.specs.FixedOrder.{fixed_order}

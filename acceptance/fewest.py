@@ -1,0 +1,176 @@
+#!/usr/bin/env python3
+"""Compares searches for the fewest NENs with plain_fewest.py.
+
+acceptance/fewest.py PROGRAM [CONTESTS] makes so many contests of 2 to 6 candidates, 2,000 if no number is given, and a quarter as many of 8 to 14, most of which have up to 10. A
+search has to print as many NENs as plain_fewest.py finds there have to be, by trying choices of them in the small contests and by a flow in all. Each
+assertion has to have its margin, the smallest of which is the best one, and the order is that of the certificate. `check` says yes to what is printed, and
+refuses it with `no: order .. stands` where any one assertion is left out. At one worker and at eight the bytes are the same. With just as many sets as have to
+stand it is answered, and with one fewer it is spent. The last line says how many agreed.
+"""
+import json
+import multiprocessing.pool
+import os
+import subprocess
+import sys
+import tempfile
+
+import places  # noqa: F401
+import compare
+import plain
+import plain_fewest
+from draws import Draws
+from limits import MOST_SETS, MOST_WORKERS
+
+MOST_LEFT_OUT = 20  # assertions of a file of which each one is left out in turn; of more so many
+
+
+def ran(program, *words):
+    done = subprocess.run([program, *words], capture_output=True, text=True, timeout=600)
+    return done.returncode, done.stdout, done.stderr
+
+
+class Contest:
+    """A contest in a file of its own, and how the program's answers about it differ from what is wanted."""
+
+    def __init__(self, program, folder, number, rankings, n):
+        self.program, self.number, self.draws = program, number, Draws(number)
+        ids = [str(11 + c) for c in range(n)]
+        self.ballots, self.assertions = (os.path.join(folder, f"{number}.{end}") for end in ("raire", "json"))
+        compare.write(self.ballots, ids, rankings)
+        self.contest, self.wrong = plain.Contest("9", ids, rankings), []
+
+    def says(self, told):
+        self.wrong.append(f"contest {self.number} of {self.contest.n} candidates: {told}")
+
+    def see(self, wanted, *words):
+        got = ran(self.program, *words)
+        if got != (*wanted, ""):
+            self.says(f"{' '.join(words)}: wanted {str(wanted)[:400]}, got {str(got)[:400]}")
+
+    def search(self, *more):
+        return ran(self.program, "search", self.ballots, "--fewest", *more)
+
+    def judge(self):
+        contest, is_small = self.contest, self.contest.n <= 6
+        came = plain_fewest.found(contest)
+        got = self.search("--workers=1")
+        if self.search(f"--workers={MOST_WORKERS}") != got:
+            self.says("eight workers print something else than one")
+        if (other := plain_fewest.otherwise(contest, came, MOST_SETS)) is not None:
+            if got != (*other, ""):
+                self.says(f"wanted {other}, got {str(got)[:400]}")
+        elif got[0] or got[2]:
+            self.says(f"it isn't answered: {str(got)[:400]}")
+        else:
+            self.file(got[1], came)
+            if is_small and (chosen := plain_fewest.by_choice(contest, plain.tabulated(contest)[0][-1], came.best)) != came.nens:
+                self.says(f"{chosen} NENs by choice, {came.nens} by flow")
+        self.budgets(came)
+
+    def budgets(self, came):
+        """As many sets as have to stand, or one fewer; and a floor above the margin."""
+        for sets in {max(came.sets, 1), came.sets - 1} - {0, -1}:
+            wanted = plain_fewest.otherwise(self.contest, came, sets)
+            more = self.search(f"--sets={sets}")
+            if wanted is None and more[0] == 0 and not more[2]:
+                self.file(more[1], came, sets)  # NEBs may stay whose trials take more sets
+            elif wanted is None or more != (*wanted, ""):
+                self.says(f"with {sets} sets: wanted {wanted or 'a file'}, got {str(more)[:400]}")
+        floor = came.best + 1
+        self.see(plain_fewest.otherwise(self.contest, came, MOST_SETS, floor), "search", self.ballots, "--fewest", f"--floor={floor}")
+
+    def file(self, text, came, sets=MOST_SETS):
+        contest, value = self.contest, json.loads(text)
+        winner = plain.tabulated(contest)[0][-1]
+        read = plain.read_assertions(text.encode())
+        if text != plain.text_of(contest, winner, came.best, came.order, dict(read["assertions"]), None):
+            self.says(f"it isn't in the form of a file of the best margin and its order: {text[:400]}")
+        for assertion, margin in read["assertions"]:
+            if margin != contest.margin(assertion) or margin < came.best:
+                self.says(f"{assertion} has another margin than {margin}, or less than the best one")
+        nens = [assertion for assertion, _ in read["assertions"] if assertion[0] == "NEN"]
+        if len(nens) != came.nens:
+            self.says(f"{len(nens)} NENs, where {came.nens} are enough")
+        self.checked(value, (0, f"yes\nassertions {len(value['assertions'])}\nmargin {came.best}\n"), sets)
+        if sets == MOST_SETS:
+            self.left_out(value)
+
+    def checked(self, value, wanted, sets):
+        with open(self.assertions, "w") as file:
+            json.dump(value, file)
+        self.see(wanted, "check", self.ballots, self.assertions, f"--sets={sets}")
+
+    def left_out(self, value):
+        """Without any one assertion an order stands."""
+        claims = value["assertions"]
+        some = range(len(claims)) if len(claims) <= MOST_LEFT_OUT else {self.draws.below(len(claims)) for _ in range(MOST_LEFT_OUT)}
+        nebs = [at for at, claim in enumerate(claims) if claim["kind"] == "NEB"]
+        for at in {*some, *nebs}:
+            with open(self.assertions, "w") as file:
+                json.dump({**value, "assertions": claims[:at] + claims[at + 1:]}, file)
+            status, said, _ = ran(self.program, "check", self.ballots, self.assertions, f"--sets={MOST_SETS}")
+            if status != 6 or not (said.startswith("no: order ") and said.endswith(" stands\n")):
+                self.says(f"without assertion {at + 1}: {status} {said}")
+
+    def end(self):
+        for path in (self.ballots, self.assertions):
+            if os.path.exists(path):
+                os.remove(path)
+
+
+def nearly_equal(draws, n, ballots):
+    """Each ranks some candidates, each of whom is ranked as often as any other."""
+    rankings = []
+    for _ in range(ballots):
+        left, ranking = list(range(n)), []
+        for _ in range(1 + draws.below(n)):
+            ranking.append(left.pop(draws.below(len(left))))
+        rankings.append(tuple(ranking))
+    return rankings
+
+
+def made(draws, count):
+    """Small contests, many of them close or with ties, and large ones."""
+    for number in range(count):
+        n = 2 + number % 5
+        kind = compare.contest_of if number % 3 else nearly_equal
+        yield kind(draws, n, 1 + draws.below(12) if number % 7 == 0 else 20 + draws.below(150)), n
+    for number in range(count // 4):
+        n = 8 + (number // 10 % 7 if number % 10 == 0 else number % 3)
+        kind = compare.contest_of if number % 2 else nearly_equal
+        yield kind(draws, n, 200 + draws.below(3000)), n
+
+
+def told(program, folder, numbered):
+    number, (rankings, n) = numbered
+    contest = Contest(program, folder, number, rankings, n)
+    contest.judge()
+    contest.end()
+    return contest.wrong
+
+
+def main():
+    program, count = sys.argv[1], int(sys.argv[2]) if len(sys.argv) > 2 else 2000
+    agree = failed = 0
+    with tempfile.TemporaryDirectory() as folder, multiprocessing.pool.Pool(os.cpu_count()) as pool:
+        contests = enumerate(made(Draws(23), count), 1)
+        for wrong in pool.imap(Told(program, folder), contests, chunksize=10):
+            for line in wrong:
+                print(line)
+            agree, failed = agree + (not wrong), failed + bool(wrong)
+    print(f"{agree} contests agree, {failed} don't")
+    sys.exit(1 if failed else 0)
+
+
+class Told:
+    """What is wrong with a contest, by a process of its own."""
+
+    def __init__(self, program, folder):
+        self.program, self.folder = program, folder
+
+    def __call__(self, numbered):
+        return told(self.program, self.folder, numbered)
+
+
+if __name__ == "__main__":
+    main()

@@ -1,0 +1,154 @@
+#!/usr/bin/env python3
+"""Times `raire search --fewest` beside `raire search --sets`, on contests that are made the same at every run.
+
+For each contest it prints how many assertions the certificate has and how many a search for the fewest NENs prints, with the NENs among them; the seconds of
+both searches, at one worker and, of the second, at four; the peak memory and the status of the second; and the seconds of a `check` of what it printed. The
+least of three runs counts, of one run where it took more than ten seconds.
+
+    bench/fewest.py                      all contests
+    bench/fewest.py "near-equal 16"      those of these names
+    bench/fewest.py families [SEED]      twelve contests of each family, of 20,000 ballots: the median and the sum of both numbers of assertions
+"""
+import math
+import os
+import random
+import statistics
+import sys
+import tempfile
+
+from search import PROGRAM, weights_of, write_pool
+from sets import Ran, least
+
+from limits import MOST_SETS  # noqa: E402
+
+BALLOTS, SECONDS, MEMORY = 100_000, 600, 8_000_000_000
+
+# Of each contest how often each candidate is ranked, and up to how many candidates a ballot ranks.
+CONTESTS = {
+    "near-equal 12": (weights_of(12, "near-equal"), 12),
+    "near-equal 16": (weights_of(16, "near-equal"), 16),
+    "near-equal 20": (weights_of(20, "near-equal"), 20),
+    "a landslide of 20": ([1000, 300] + [40] * 18, 20),
+    "five strong of 20": ([1000, 900, 850, 600, 450] + [60 - c for c in range(15)], 10),
+    "20, each weaker": ([int(1000 * 0.88**c) for c in range(20)], 10),
+    "ten near-equal of 20": ([1000] * 10 + [20] * 10, 10),
+}
+
+FAMILY_BALLOTS, EACH = 20_000, 12
+
+
+def in_file(path):
+    """How many assertions a file has, and how many of them are NENs: a large one isn't read as JSON."""
+    with open(path, "rb") as file:
+        text = file.read()
+    return text.count(b'"kind"'), text.count(b'"NEN"')
+
+
+def time_contest(name, folder):
+    ballots, printed, fewest = (os.path.join(folder, file) for file in ("ballots.raire", "printed.json", "fewest.json"))
+    write_pool(ballots, *CONTESTS[name], BALLOTS)
+    by_sets = least([PROGRAM, "search", ballots, f"--sets={MOST_SETS}", "--workers=1"], printed, SECONDS, MEMORY)
+    four = least([PROGRAM, "search", ballots, "--fewest", "--workers=4"], os.devnull, SECONDS, MEMORY)
+    one = least([PROGRAM, "search", ballots, "--fewest", "--workers=1"], fewest, SECONDS, MEMORY)
+    check = least([PROGRAM, "check", ballots, fewest, f"--sets={MOST_SETS}"], os.devnull, SECONDS, MEMORY)
+    print(
+        f"{name:<22} {in_file(printed)[0]:>10} {by_sets.told()} | {in_file(fewest)[0]:>8} {in_file(fewest)[1]:>8} {one.told()} {four.told()}"
+        f" {one.memory / 1e6:>7.0f} {one.status_told():>6} | {check.told()} {check.status_told():>6}",
+        flush=True,
+    )
+
+
+# ---- families
+
+
+def by_weights(weights):
+    """Each next candidate of a ranking is drawn by its weight; rankings are cut off as people do."""
+
+    def ranking(dice):
+        keys = sorted(range(len(weights)), key=lambda c: -math.log(dice.random()) / weights[c])
+        return keys[: cut(dice, len(weights))]
+
+    return ranking
+
+
+def cut(dice, n):
+    return min(n, 1 + int(-math.log(1 - dice.random()) / 0.35))
+
+
+def mallows(n, phi):
+    """Each candidate of a fixed order is put in at a place, the further from the end the less often."""
+
+    def ranking(dice):
+        order = []
+        for c in range(n):
+            weights = [phi ** (len(order) - at) for at in range(len(order) + 1)]
+            order.insert(dice.choices(range(len(order) + 1), weights)[0], c)
+        return order[: cut(dice, n)]
+
+    return ranking
+
+
+def in_the_plane(n, dice):
+    """Voters rank by nearness."""
+    places = [(dice.gauss(0, 1), dice.gauss(0, 1)) for _ in range(n)]
+
+    def ranking(dice):
+        x, y = dice.gauss(0, 1), dice.gauss(0, 1)
+        return sorted(range(n), key=lambda c: (places[c][0] - x) ** 2 + (places[c][1] - y) ** 2)[: cut(dice, n)]
+
+    return ranking
+
+
+FAMILIES = {
+    "nearly equal, 8": (8, lambda dice: by_weights([1 + 0.02 * dice.random() for _ in range(8)])),
+    "nearly equal, 12": (12, lambda dice: by_weights([1 + 0.02 * dice.random() for _ in range(12)])),
+    "Mallows 0.95, 12": (12, lambda dice: mallows(12, 0.95)),
+    "Mallows 0.85, 12": (12, lambda dice: mallows(12, 0.85)),
+    "falling strengths, 12": (12, lambda dice: by_weights([0.75**c for c in range(12)])),
+    "any strengths, 12": (12, lambda dice: by_weights([0.05 + dice.random() for _ in range(12)])),
+    "in the plane, 12": (12, lambda dice: in_the_plane(12, dice)),
+    "like a city's, 12": (12, lambda dice: by_weights([6 - c for c in range(4)] + [0.3 / (c - 2) for c in range(4, 12)])),
+    "a landslide, 12": (12, lambda dice: by_weights([12, 4] + [1] * 10)),
+}
+
+
+def write_family(path, n, ranking, dice):
+    with open(path, "w") as file:
+        file.write(f"1\nContest,1,{n},{','.join(str(c + 1) for c in range(n))}\n")
+        for number in range(FAMILY_BALLOTS):
+            file.write(",".join(["1", f"b_{number + 1}", *(str(c + 1) for c in ranking(dice))]) + "\n")
+
+
+def count_family(name, seed, folder):
+    n, made = FAMILIES[name]
+    before, after, ties = [], [], 0
+    ballots, printed, fewest = (os.path.join(folder, file) for file in ("ballots.raire", "printed.json", "fewest.json"))
+    for number in range(EACH):
+        dice = random.Random(f"{name} {seed} {number}")
+        write_family(ballots, n, made(dice), dice)
+        if Ran([PROGRAM, "search", ballots, "--fewest"], fewest, SECONDS, MEMORY).status != 0:
+            ties += 1
+            continue
+        Ran([PROGRAM, "search", ballots, f"--sets={MOST_SETS}"], printed, SECONDS, MEMORY)
+        before.append(in_file(printed)[0])
+        after.append(in_file(fewest)[0])
+    told = f"{statistics.median(before):>12.0f} {sum(before):>8} | {statistics.median(after):>8.0f} {sum(after):>8}" if before else ""
+    print(f"{name:<24} {told}" + f"  {ties} without assertions" * bool(ties), flush=True)
+
+
+def main():
+    if not os.path.exists(PROGRAM):
+        sys.exit("there is no program to time: ./raire --build")
+    with tempfile.TemporaryDirectory() as folder:
+        if sys.argv[1:2] == ["families"]:
+            print(f"{'family':<24} {'certificate':>12} {'in all':>8} | {'fewest':>8} {'in all':>8}")
+            for name in FAMILIES:
+                count_family(name, (sys.argv[2:] or ["1"])[0], folder)
+            return
+        print(f"{'contest':<22} {'assertions':>10} {'search':>8} | {'fewest':>8} {'NENs':>8} {'search':>8} {'of four':>8} {'peak MB':>7} {'status':>6} | {'check':>8} {'status':>6}")
+        for name in sys.argv[1:] or CONTESTS:
+            time_contest(name, folder)
+
+
+if __name__ == "__main__":
+    main()

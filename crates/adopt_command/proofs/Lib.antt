@@ -1,0 +1,2 @@
+pub mod Adopts
+pub mod OfVotes

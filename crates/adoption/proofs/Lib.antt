@@ -1,0 +1,5 @@
+pub mod Once
+pub mod TrueMargins
+pub mod Answered
+pub mod Adopting
+pub mod Steps

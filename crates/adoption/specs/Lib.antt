@@ -1,0 +1,3 @@
+pub mod Adopted
+pub mod Answers
+pub mod Laws

@@ -1,0 +1,5 @@
+use Rattle.call_laws.proofs.FewestFiles.{fewest_is_opened}
+use Rattle.call_laws.proofs.laws.fewest_is_opened.Goals as goal
+
+pub returns : goal.returns
+returns c = fewest_is_opened

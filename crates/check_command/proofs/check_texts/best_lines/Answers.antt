@@ -1,0 +1,5 @@
+use Rattle.std.proofs.Common.{rules, append_assoc}
+use Rattle.check_command.proofs.check_texts.best_lines.Goals as goal
+
+pub returns : goal.returns
+returns c = search (rules, append_assoc)

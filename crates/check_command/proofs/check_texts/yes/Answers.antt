@@ -1,5 +1,0 @@
-use Rattle.std.proofs.Common.{rules, append_assoc}
-use Rattle.check_command.proofs.check_texts.yes.Goals as goal
-
-pub returns : goal.returns
-returns c = search (rules, append_assoc)

@@ -1,0 +1,5 @@
+pub mod SoFar
+pub mod Entries
+pub mod Headings
+pub mod Sound
+pub mod FromFiles

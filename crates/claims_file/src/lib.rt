@@ -1,0 +1,13 @@
+//! The claims file: the assertions that somebody names for a contest, as a JSON text. What it says of their margins isn't read.
+#![tactic(auto)]
+
+mod claims;
+mod fault;
+pub mod laws;
+mod listed;
+mod members;
+mod read;
+
+pub use claims::Claims;
+pub use fault::{CRule, ClaimsFault};
+pub use read::read_claims;

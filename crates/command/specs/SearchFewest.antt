@@ -1,0 +1,15 @@
+-- The limits of what a search for the fewest NENs is asked for.
+use Rattle.std.specs.Prelude.{IfSome}
+use Rattle.irv_base.specs.declared.limits.TheConstants.{MOST_WORKERS}
+use Rattle.budget.specs.declared.limits.TheConstants.{MOST_SETS}
+use Rattle.command.specs.Limits.{IsNamed, IsUpTo}
+use Rattle.command.specs.PlanTerms.{AreWithinLimits}
+use Rattle.command.specs.declared.limits.TheConstants.{MOST_FLOOR}
+use Rattle.command.specs.declared.search_fewest.SearchFewestTask.{SearchFewestTask}
+
+pub record IsWithinLimits (task : SearchFewestTask) : Type 0 where
+  pub ballots : IsNamed task.ballots
+  pub workers : IsUpTo MOST_WORKERS task.workers
+  pub sets : IsUpTo MOST_SETS task.sets
+  pub floor : IsUpTo MOST_FLOOR task.floor
+  pub plan : IfSome task.plan AreWithinLimits

@@ -1,0 +1,46 @@
+-- What a search for the fewest NENs of a contest finds.
+use Rattle.std.specs.Prelude.{◌≡◌, ◌≤◌, ◌<◌, ℕ, List, Some}
+use Rattle.budget.specs.declared.budget.Budget.TheVariants.{Sets}
+use Rattle.assertions.specs.Hardness.{first_bound, start_order}
+use Rattle.ballot_reader.specs.Ballots.{BallotFile}
+use Rattle.assertion_file.specs.Content.{Content}
+use Rattle.fewest_search.specs.Answers.{AreFewest}
+use Rattle.fewest_search.specs.Sets.{fewest_sets}
+use Rattle.contest_search.specs.Budget.{IsTold}
+use Rattle.contest_search.specs.Certificate.{margin_of, order_of, certificate_of}
+use Rattle.contest_search.specs.Contest.{candidate_count, IsWon, IsElected, IsTie}
+use Rattle.contest_search.specs.declared.found.Found.{Found}
+use Rattle.contest_search.specs.declared.found.Found.TheVariants.{Certificate as CertificateFound, Tie, Spent, SpentSets}
+
+-- the sets that are needed: for the certificate's order, or beside all true NEBs of at least the best margin
+abbrev pub fewest_sets_of : BallotFile → ℕ → ℕ
+fewest_sets_of ballots winner = fewest_sets (candidate_count ballots) ballots.rankings winner
+
+-- the contest is decided, and the file is its certificate but for the claims; these have the fewest NENs at the best margin
+pub record IsFewestFoundIn (sets : ℕ) (ballots : BallotFile) (file : Content) : Type 0 where
+  pub winner : ℕ
+  pub won : IsWon ballots winner
+  pub decided : IsElected ballots winner
+  pub order : List ℕ
+  pub hardest : order_of ballots winner ≡ Some order
+  pub is : file ≡ record (certificate_of ballots winner order) { claims = file.claims }
+  pub claims : AreFewest (candidate_count ballots) ballots.rankings winner sets (margin_of ballots winner) file.claims
+  pub within : fewest_sets_of ballots winner ≤ sets
+
+-- more sets are needed than there are; with it comes the order that a search starts with, and its hardness, which isn't 0
+pub record IsSpentFewest (sets : ℕ) (ballots : BallotFile) (order : List ℕ) (margin : ℕ) : Type 0 where
+  pub winner : ℕ
+  pub won : IsWon ballots winner
+  pub above : sets < fewest_sets_of ballots winner
+  pub start : order ≡ start_order won.order
+  pub hardness : margin ≡ first_bound (candidate_count ballots) ballots.rankings won.order
+  pub some : 1 ≤ margin
+
+-- a contest that isn't decided is told as by a search by sets
+abbrev pub FoundFewestIn : ℕ → BallotFile → Found → Type 0
+FoundFewestIn sets ballots (CertificateFound file) = IsFewestFoundIn sets ballots file
+FoundFewestIn sets ballots (Tie round tied votes) =
+    IsTie ballots round tied votes × IsTold (Sets sets) ballots
+FoundFewestIn sets ballots (Spent last order margin) = ⊥
+FoundFewestIn sets ballots (SpentSets told order margin) =
+    (told ≡ sets) × IsSpentFewest sets ballots order margin

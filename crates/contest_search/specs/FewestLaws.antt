@@ -1,0 +1,50 @@
+-- How many sets suffice for a search for the fewest NENs, and what the checker says of what it finds.
+use Rattle.std.specs.Prelude.{◌≡◌, ◌↔◌, ℕ, ◌<◌, ◌≤◌, ◌-◌, ◌^◌, List, Option, Ok}
+use Rattle.budget.specs.declared.budget.Budget.TheVariants.{Sets}
+use Rattle.irv_base.specs.Names.{Id}
+use Rattle.ballot_reader.specs.Ballots.{BallotFile}
+use Rattle.ballot_reader.specs.Grammar.{ballots_of}
+use Rattle.assertion_file.specs.Content.{Content}
+use Rattle.assertion_file.specs.Reading.{assertion_file_of}
+use Rattle.assertion_file.specs.Text.{assertion_file_text}
+use Rattle.cover_checker.specs.Checks.{IsAnswer}
+use Rattle.cover_checker.specs.Holds.{Holds}
+use Rattle.cover_checker.specs.declared.checked.Checked.TheVariants.{Accepted}
+use Rattle.contest_search.specs.Contest.{candidate_count, IsElected, IsWon}
+use Rattle.contest_search.specs.Fewest.{FoundFewestIn, IsFewestFoundIn, fewest_sets_of}
+use Rattle.contest_search.specs.Found.{IsSpentFound}
+use Rattle.contest_search.specs.declared.found.Found.{Found}
+use Rattle.contest_search.specs.Planned.{planned, CanBePlanned}
+
+-- No search needs more sets than there are, less three.
+abbrev pub FewestSetsAreFew : Type 0
+FewestSetsAreFew =
+    (ballots : BallotFile) (winner : ℕ) → IsWon ballots winner →
+    fewest_sets_of ballots winner ≤ 2 ^ candidate_count ballots - 3
+
+-- Of a contest that is decided, a search is spent exactly if more sets are needed than the budget has.
+abbrev pub SpentFewestExactly : Type 0
+SpentFewestExactly =
+    (sets : ℕ) (ballots : BallotFile) (found : Found) (winner : ℕ) → IsWon ballots winner →
+    IsElected ballots winner → FoundFewestIn sets ballots found →
+    (IsSpentFound found ↔ (sets < fewest_sets_of ballots winner))
+
+-- What is found in ballots that were read holds of them, reads back from its text, and is accepted by the checker with the same budget.
+abbrev pub FewestIsAccepted : Type 0
+FewestIsAccepted =
+    (sets : ℕ) (bytes : List ℕ) (asked : Option Id) (ballots : BallotFile) (file : Content) →
+    ballots_of bytes asked ≡ Ok ballots → IsFewestFoundIn sets ballots file →
+    Holds ballots file
+    × (assertion_file_of (assertion_file_text file) ≡ Ok file)
+    × IsAnswer (Sets sets) ballots file (Ok Accepted)
+
+-- So is it with the draws of a clean audit.
+abbrev pub PlannedFewestIsAccepted : Type 0
+PlannedFewestIsAccepted =
+    (cards gamma limit sets : ℕ) (bytes : List ℕ) (asked : Option Id) (ballots : BallotFile)
+    (file : Content) →
+    CanBePlanned cards gamma limit file.records → ballots_of bytes asked ≡ Ok ballots →
+    IsFewestFoundIn sets ballots file → let planned = planned cards gamma limit file in
+    Holds ballots planned
+    × (assertion_file_of (assertion_file_text planned) ≡ Ok planned)
+    × IsAnswer (Sets sets) ballots planned (Ok Accepted)

@@ -1,0 +1,45 @@
+-- The laws of the fewest NENs of a contest.
+use Rattle.std.specs.Prelude.{◌≡◌, ℕ, ◌-◌, ◌^◌, ◌<◌, ◌≤◌, List, ◌∷◌, ◌++◌, All, Contains, IsTrue}
+use Rattle.assertions.specs.declared.assertion.Claim.{Claim}
+use Rattle.fewest.specs.Nens.{is_nen}
+use Rattle.irv_tabulator.specs.declared.tabulated.Tabulated.{Tabulated}
+use Rattle.nen_cut.specs.Floors.{assertions_in}
+use Rattle.fewest_search.specs.Answers.{AreFewest, IsFewest, IsSpent}
+use Rattle.fewest_search.specs.Needed.{IsOpen}
+use Rattle.fewest_search.specs.Sets.{fewest_sets}
+use Rattle.fewest_search.specs.declared.ends.FewestAssertions.{FewestAssertions}
+
+-- no set of these three is needed: nobody's, that of the winner alone, and that of all candidates
+abbrev pub SetsAreFew : Type 0
+SetsAreFew =
+    (n winner : ℕ) (records : List (List ℕ)) → winner < n → 1 < n →
+    fewest_sets n records winner ≤ 2 ^ n - 3
+
+abbrev pub NeverBoth : Type 0
+NeverBoth =
+    (n sets margin : ℕ) (records : List (List ℕ)) (tab : Tabulated) (order : List ℕ)
+    (found : FewestAssertions) →
+    IsFewest n records tab.winner sets found → IsSpent n records tab sets order margin → ⊥
+
+-- without one of the claims an order stands
+abbrev pub AllAreNeeded : Type 0
+AllAreNeeded =
+    (n winner sets margin : ℕ) (records : List (List ℕ)) (claims before : List Claim) (claim : Claim)
+    (later : List Claim) → winner < n → 1 < n → 2 ^ n - 3 ≤ sets →
+    AreFewest n records winner sets margin claims → claims ≡ before ++ claim ∷ later →
+    IsOpen n winner (assertions_in (before ++ later))
+
+abbrev pub NensAreNeeded : Type 0
+NensAreNeeded =
+    (n winner sets margin : ℕ) (records : List (List ℕ)) (claims before : List Claim) (claim : Claim)
+    (later : List Claim) →
+    AreFewest n records winner sets margin claims → claims ≡ before ++ claim ∷ later →
+    IsTrue (is_nen claim.assertion) → IsOpen n winner (assertions_in (before ++ later))
+
+-- no claim has a margin below the best one, and one has that margin
+abbrev pub BestIsReached : Type 0
+BestIsReached =
+    (n winner sets : ℕ) (records : List (List ℕ)) (found : FewestAssertions) → winner < n → 1 < n →
+    IsFewest n records winner sets found →
+    All (λ claim. found.margin ≤ claim.margin) found.claims.items
+    × ((claim : Claim) × Contains found.claims.items claim × (claim.margin ≡ found.margin))

@@ -1,0 +1,6 @@
+pub mod Sets
+pub mod Needed
+pub mod InOrder
+pub mod Spared
+pub mod Answers
+pub mod Laws

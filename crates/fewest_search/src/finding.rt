@@ -1,0 +1,93 @@
+// The assertions with the fewest NENs.
+ghost use Rattle.std.specs.Prelude.{◌≡◌, ◌<◌, ◌≤◌, ◌++◌, ℕ, List, IfOk, IfErr, IsTrue, All, Ok, None};
+ghost use Rattle.irv_base.specs.Orders.{is_order, Elects};
+ghost use Rattle.irv_base.specs.declared.limits.TheConstants.{ROOM};
+ghost use Rattle.set_tallies.specs.Bags.{IsOf};
+ghost use Rattle.assertions.specs.Assertions.{is_proper};
+ghost use Rattle.set_walk.specs.Answers.{first_within};
+ghost use Rattle.set_walk.specs.Walks.{passes};
+ghost use Rattle.set_search.specs.Answers.{IsFault as IsMarginFault};
+ghost use Rattle.nen_cut.specs.Floors.{assertions_in};
+ghost use Rattle.fewest_search.specs.Answers.{IsEnd, IsFault};
+ghost use Rattle.fewest_search.specs.Spared.{AreSpared};
+
+use crate::ends::{FewestAssertions, FewestEnd};
+use crate::in_order::in_fixed_order;
+use crate::sparing::{in_turn, nebs_left};
+use assertions::Claim;
+use irv_base::{Candidate, Memory};
+use irv_tabulator::Tabulated;
+use nen_cut::{FewestNens, NensFault, fewest_nens};
+use set_search::{BestEnd, BestFound, SetsFault, best_by_sets};
+use set_tallies::Counted;
+use std::alloc::Global;
+
+// The NENs, and the NEBs that are left, in the fixed order.
+fn claims_of(
+    alloc: Global,
+    n: u32,
+    winner: Candidate,
+    sets: u32,
+    found: FewestNens,
+) -> Result<Vec<Claim>, Memory>
+    requires some { 1 ≤ n }
+    requires room { n ≤ ROOM }
+    requires proper { All (λ claim. IsTrue (is_proper n claim.assertion)) (found.nebs.items ++ found.nens.items) }
+    requires covered { first_within n winner sets (passes (assertions_in (found.nebs.items ++ found.nens.items))) ≡ Ok None }
+    ensures { IfOk result (λ claims. AreSpared n winner sets found.nebs.items found.nens.items claims.items) }
+{
+    let FewestNens { nebs, nens } = found;
+    let many = nens.len();
+    let claims = in_turn(nebs, nens)?;
+    let mut left = nebs_left(alloc, n, winner, sets, claims.as_slice(), many)?;
+    left.extend_from_slice(&claims[..many])?;
+    in_fixed_order(alloc, left.as_slice())
+}
+
+/// The true assertions of the contest with these records, of which `tab` is the tabulation, that confirm its winner with the fewest NENs
+/// that any do whose margins aren't below the best one. With them come the best margin and the order of the canonical certificate.
+///
+/// The NEBs are first all of at least that margin. Of these each is dropped that can go, the smallest margin first, as far as a trial
+/// within `sets` shows it. So each assertion that is left is needed. No NEN can be spared by any choice of the others.
+///
+/// Two counts of sets are taken: those that the certificate's order needs, as `certify_by_sets` counts them, and those that stand beside
+/// all true NEBs of at least the best margin. If one of them is above `sets`, the answer is `Spent`. But if the start order has hardness
+/// 0, the contest isn't decided, and the answer says so whatever the budget. The other error is want of memory.
+pub fn find_fewest(
+    alloc: Global,
+    counted: &Counted,
+    tab: &Tabulated,
+    sets: u32,
+) -> Result<FewestEnd, SetsFault>
+    requires order { IsTrue (is_order counted.now.bag.n tab.now.order) }
+    requires winner { Elects tab.now.order tab.now.winner }
+    requires records { (records : List (List ℕ)) × IsOf counted.now.bag records }
+    ensures end { (records : List (List ℕ)) → IsOf counted.now.bag records
+        → IfOk result (IsEnd counted.now.bag.n records tab.now sets) }
+    ensures fault { (records : List (List ℕ)) → IsOf counted.now.bag records
+        → IfErr result (IsFault counted.now.bag.n records tab.now sets) }
+{
+    let BestFound { best, start } = match best_by_sets(alloc, counted, tab, sets)? {
+        BestEnd::Found(found) => found,
+        BestEnd::Undecided => return Ok(FewestEnd::Undecided),
+    };
+    match fewest_nens(alloc, counted, tab.winner, best.margin, sets) {
+        Ok(found) => {
+            let claims = claims_of(alloc, tab.order.len(), tab.winner, sets, found)?;
+            Ok(FewestEnd::Found(FewestAssertions {
+                claims,
+                margin: best.margin,
+                order: best.order,
+            }))
+        }
+        Err(fault) => match fault {
+            NensFault::Spent => Err(SetsFault::Spent {
+                order: start.order,
+                margin: start.margin,
+            }),
+            // The certificate covers, and its margins are at least the best one.
+            NensFault::Uncovered => unreachable!(),
+            NensFault::Memory => Err(SetsFault::Memory),
+        },
+    }
+}

@@ -1,0 +1,7 @@
+use Rattle.claims_file.specs.Faults.{rule_name}
+use Rattle.input_files.proofs.Judging.{refused_for}
+use Rattle.input_files.proofs.files.claims_in.Goals as goal
+
+pub returns-in-Err-clause-judged : goal.returns-in-Err-clause-judged
+returns-in-Err-clause-judged c =
+    refused_for rule_name c.args.file.now _ c.in-Err.fault c.refuse_file.result c.in-Err.ensures.refused c.refuse_file.ensures

@@ -1,0 +1,10 @@
+pub mod Enough
+pub mod Leading
+pub mod Cutting
+pub mod Short
+pub mod Zips
+pub mod Across
+pub mod Counted
+pub mod Fewest
+pub mod Nothing
+pub mod Escaping

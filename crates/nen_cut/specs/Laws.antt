@@ -1,0 +1,9 @@
+-- The laws of the fewest NENs.
+use Rattle.std.specs.Prelude.{ℕ, ◌-◌, ◌^◌, ◌<◌, ◌≤◌, List}
+use Rattle.nen_cut.specs.Floors.{sets_beside}
+
+-- nobody's set doesn't stand beside NEBs, nor that of the winner alone, nor that of all candidates
+abbrev pub SetsAreFew : Type 0
+SetsAreFew =
+    (n winner floor : ℕ) (records : List (List ℕ)) → winner < n → 1 < n →
+    sets_beside n records winner floor ≤ 2 ^ n - 3

@@ -1,0 +1,4 @@
+pub mod Floors
+pub mod Cut
+pub mod Budgets
+pub mod Laws

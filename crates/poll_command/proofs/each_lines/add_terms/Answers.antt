@@ -1,0 +1,5 @@
+use Rattle.std.proofs.Common.{rules, append_assoc}
+use Rattle.poll_command.proofs.each_lines.add_terms.Goals as goal
+
+pub returns : goal.returns
+returns c = search (rules, append_assoc)

@@ -1,0 +1,127 @@
+// `poll MANIFEST ASSERTIONS SEEN --each`: which draw confirms each assertion of a file, by what is seen of the drawn cards.
+ghost use Rattle.std.specs.Prelude.{◌≡◌, length};
+ghost use Rattle.desk.specs.Count.{Rose};
+ghost use Rattle.cli_base.specs.Accounts.{IsAccountedFor};
+ghost use Rattle.cli_base.specs.Confirmed.{confirmed_kind};
+ghost use Rattle.cli_base.specs.Begun.{HasCome};
+ghost use Rattle.cli_base.specs.Due.{due, IsOneOrMemory};
+ghost use Rattle.cli_base.specs.Faults.{IsFaultTold};
+ghost use Rattle.cli_base.specs.Outcome.{Answered};
+ghost use Rattle.cli_base.specs.Script.{ByDesk, Runs};
+ghost use Rattle.command.specs.PollEach.{IsWithinLimits};
+ghost use Rattle.poll_command.specs.Each.{PollsEach, after_cover, after_manifest, script};
+ghost use Rattle.poll_command.specs.EachLines.{each_table};
+
+use crate::cover::unless_covered;
+use crate::each_lines::each_table;
+use assertion_file::AssertionFile;
+use audit_session::SeenCards;
+use cli_base::{Answer, Refusal, confirmed_kind};
+use command::PollEachTask;
+use desk::Desk;
+use input_files::{assertions_in, bytes_of, manifest_in, no_record_text, refuse_for, seen_in};
+use manifest::Manifest;
+use polling::{EachEnd, PollFault, poll_each};
+use std::alloc::Global;
+
+/// What a poll of the cards tells of the assertions, looked at after each draw, and whether it confirms all of them.
+pub fn answer<D: Desk>(alloc: Global, desk: &mut D, task: &PollEachTask) -> Result<Answer, Refusal>
+    requires { IsWithinLimits task.now }
+    ensures held { D.held desk.new ≡ D.held desk.old }
+    ensures faults { IsFaultTold (D.faults desk.old) (D.faults desk.new) (due result).status }
+    ensures due { HasCome
+        (ByDesk (D.held desk.old) (Rose (D.faults desk.old) (D.faults desk.new)))
+        (D.served desk.old) (D.served desk.new)
+        (Runs (script task.now)) (due result) }
+    ensures served { IsAccountedFor 3 (D.served desk.old) (D.served desk.new) (due result).status }
+{
+    let bytes = bytes_of(alloc, desk, &task.manifest)?;
+    let batches = manifest_in(alloc, &task.manifest, &bytes)?;
+    after_manifest(alloc, desk, task, &batches)
+}
+
+// The assertions are read. They have to refute each order that elects another candidate than their winner.
+fn after_manifest<D: Desk>(
+    alloc: Global,
+    desk: &mut D,
+    task: &PollEachTask,
+    batches: &Manifest,
+) -> Result<Answer, Refusal>
+    requires { IsWithinLimits task.now }
+    ensures held { D.held desk.new ≡ D.held desk.old }
+    ensures faults { IsFaultTold (D.faults desk.old) (D.faults desk.new) (due result).status }
+    ensures due { HasCome
+        (ByDesk (D.held desk.old) (Rose (D.faults desk.old) (D.faults desk.new)))
+        (D.served desk.old) (D.served desk.new)
+        (Runs (after_manifest task.now batches.now)) (due result) }
+    ensures served { IsAccountedFor 2 (D.served desk.old) (D.served desk.new) (due result).status }
+{
+    let bytes = bytes_of(alloc, desk, &task.assertions)?;
+    let file = assertions_in(alloc, &task.assertions, &bytes)?;
+    if let Some(answer) = unless_covered(alloc, &file, task.nodes)? {
+        return Ok(answer);
+    }
+    after_cover(alloc, desk, task, batches, &file)
+}
+
+// What is seen of the cards is read.
+fn after_cover<D: Desk>(
+    alloc: Global,
+    desk: &mut D,
+    task: &PollEachTask,
+    batches: &Manifest,
+    file: &AssertionFile,
+) -> Result<Answer, Refusal>
+    requires { IsWithinLimits task.now }
+    ensures held { D.held desk.new ≡ D.held desk.old }
+    ensures faults { IsFaultTold (D.faults desk.old) (D.faults desk.new) (due result).status }
+    ensures due { HasCome
+        (ByDesk (D.held desk.old) (Rose (D.faults desk.old) (D.faults desk.new)))
+        (D.served desk.old) (D.served desk.new)
+        (Runs (after_cover task.now batches.now file.now)) (due result) }
+    ensures served { IsAccountedFor 1 (D.served desk.old) (D.served desk.new) (due result).status }
+{
+    let bytes = bytes_of(alloc, desk, &task.seen)?;
+    let seen = seen_in(alloc, &task.seen, batches, file.candidates(), &bytes)?;
+    poll_of(alloc, task, batches, file, &seen)
+}
+
+// The poll by what is seen.
+fn poll_of(
+    alloc: Global,
+    task: &PollEachTask,
+    batches: &Manifest,
+    file: &AssertionFile,
+    seen: &SeenCards,
+) -> Result<Answer, Refusal>
+    requires { IsWithinLimits task.now }
+    ensures { IsOneOrMemory (PollsEach task.now batches.now file.now seen.now) (due result) }
+{
+    match poll_each(
+        alloc, batches, file, seen, &task.seed, task.draws, task.limit, task.gamma,
+    ) {
+        Ok(end) => each_answer(alloc, task, batches.cards(), file, &end),
+        Err(PollFault::NoRecord { card, k }) => {
+            Err(refuse_for(alloc, &task.seen, no_record_text(alloc, card, k)))
+        }
+        Err(PollFault::Memory) => Err(Refusal::Memory),
+    }
+}
+
+// The answer that tells of the poll.
+fn each_answer(
+    alloc: Global,
+    task: &PollEachTask,
+    cards: u32,
+    file: &AssertionFile,
+    end: &EachEnd,
+) -> Result<Answer, Refusal>
+    requires { length end.now.claims.items ≡ length file.now.claims }
+    ensures { IsOneOrMemory (λ verdict. verdict ≡ Answered (confirmed_kind end.now.confirmed)
+        (each_table file.now cards task.now end.now.claims.items end.now.confirmed)) (due result) }
+{
+    Ok(Answer {
+        kind: confirmed_kind(end.confirmed),
+        text: each_table(alloc, file, cards, task, end)?,
+    })
+}

@@ -1,0 +1,43 @@
+use Rattle.std.proofs.Common.{inl, inr, refl, ap, arith, ◌∙◌}
+use Rattle.assertion_file.specs.Text.{assertion_file_text}
+use Rattle.cli_base.specs.Outcome.{Answered}
+use Rattle.cli_base.specs.declared.outcome.AnswerKind.TheVariants.{Done, FullCount}
+use Rattle.search_commands.proofs.search_fewest.assertions.Goals as goal
+
+pub returns-then-margin-task : goal.returns-then-margin-task
+returns-then-margin-task c =
+    let below = c.if-margin-task.true in
+    let same = c.margin.ensures.same in
+    inl (
+      Answered FullCount _,
+      inr (inr (inr (
+        _,
+        record {
+          file = c.args.file;
+          is = c.requires.found;
+          floor = omega (arith, below, same);
+          shown = c.in_ok-full_count.ensures;
+        },
+        refl,
+      ))),
+      refl,
+    )
+
+pub returns : goal.returns
+returns c =
+    let reached = c.if-margin-task.false in
+    let same = c.margin.ensures.same in
+    inl (
+      Answered Done _,
+      inl (
+        _,
+        record {
+          file = c.args.file;
+          is = c.requires.found;
+          floor = omega (arith, reached, same);
+          shown = c.in_ok-print_file.ensures.text ∙ ap assertion_file_text c.in_ok-file.ensures;
+        },
+        refl,
+      ),
+      refl,
+    )

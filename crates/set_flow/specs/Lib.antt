@@ -1,0 +1,4 @@
+pub mod Rooms
+pub mod Kept
+pub mod Seen
+pub mod Searched

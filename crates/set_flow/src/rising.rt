@@ -1,0 +1,84 @@
+// Units that flow on and back, until none can.
+ghost use Rattle.std.specs.Prelude.{◌≡◌, ◌<◌, ◌≤◌, ℕ, List, OnOk, IfOk};
+ghost use Rattle.irv_base.specs.Candidates.{candidates, set_of};
+ghost use Rattle.irv_base.specs.declared.limits.TheConstants.{ROOM};
+ghost use Rattle.fewest.specs.Cuts.{IsCut};
+ghost use Rattle.fewest.specs.Flows.{IsFlow};
+ghost use Rattle.fewest.specs.Growth.{Draws, IsStuck};
+ghost use Rattle.set_walk.specs.Dives.{is_seen};
+ghost use Rattle.set_flow.specs.declared.room.Room.{Room};
+ghost use Rattle.set_flow.specs.Rooms.{AreRooms};
+ghost use Rattle.set_flow.specs.Kept.{carried};
+ghost use Rattle.set_flow.specs.Seen.{AreLinked, AreLinks, IsUndone};
+ghost use Rattle.set_flow.specs.Searched.{IsWay};
+
+use crate::flow::Flow;
+use crate::searching::{Search, search_all};
+use crate::seen::Seen;
+use crate::steps::Steps;
+use irv_base::{CandSet, Candidate, Memory};
+use std::alloc::Global;
+
+// Draws a unit from a set back to the one that it came from by this candidate: on to a set that has the candidate, or back to one that hasn't.
+fn undo(flow: &mut Flow, set: CandSet, c: Candidate) -> Result<(), Memory>
+    ensures { OnOk result (IsUndone (carried flow.old.kept) (carried flow.new.kept) set c) }
+{
+    if set.has(c) {
+        flow.put(set.without(c), c)
+    } else {
+        flow.take(set, c)
+    }
+}
+
+// Draws a unit from the set of all back to nobody's, along the way by which it was seen.
+fn draw(flow: &mut Flow, seen: &Seen) -> Result<(), Memory>
+    requires { (n all : ℕ) × IsWay n all seen.now }
+    ensures { (n all winner floor : ℕ) (records : List (List ℕ)) (rooms : ℕ → ℕ → Room)
+        → AreRooms n winner records floor rooms → all ≡ set_of (candidates n)
+        → IsWay n all seen.now
+        → AreLinks rooms (carried flow.old.kept) seen.now.sets.keys seen.now.from.items seen.now.by.items
+        → OnOk result (Draws n winner records floor (carried flow.old.kept) (carried flow.new.kept) 0) }
+{
+    let mut place = seen.len() - 1;
+    while place > 0 {
+        let set = seen.at(place);
+        let c = seen.by[place];
+        place = seen.from[place] as usize;
+        undo(flow, set, c)?;
+    }
+    Ok(())
+}
+
+/// Lets units flow from nobody's set to that of all, by steps on and back, until none can. Answers the sets that a unit can come to then:
+/// they are a cut, and it can't go from them to another. More than `u32::MAX` units are want of memory.
+pub fn rise<T: Steps>(
+    alloc: Global,
+    steps: &mut T,
+    n: u32,
+    all: CandSet,
+    flow: &mut Flow,
+) -> Result<Seen, Memory>
+    requires size { n ≡ T.size steps.old }
+    requires some { 0 < n }
+    requires room { n ≤ ROOM }
+    requires all { all ≡ set_of (candidates n) }
+    ensures same { steps.new ≡ steps.old }
+    ensures flow { (winner floor : ℕ) (records : List (List ℕ)) (rooms : ℕ → ℕ → Room) → T.is_by steps.old rooms
+        → AreRooms n winner records floor rooms
+        → IsFlow n winner records floor (carried flow.old.kept)
+        → OnOk result (IsFlow n winner records floor (carried flow.new.kept)) }
+    ensures stuck { (winner floor : ℕ) (records : List (List ℕ)) (rooms : ℕ → ℕ → Room) → T.is_by steps.old rooms
+        → AreRooms n winner records floor rooms
+        → IsFlow n winner records floor (carried flow.old.kept)
+        → IfOk result (λ seen. IsStuck n winner records floor (carried flow.new.kept) (is_seen seen.sets.keys)) }
+    ensures cut { IfOk result (λ seen. IsCut n (is_seen seen.sets.keys)) }
+    ensures linked { IfOk result (λ seen. AreLinked n seen.sets.keys seen.from.items seen.by.items) }
+{
+    for _unit in 0..u32::MAX {
+        match search_all(alloc, steps, n, all, flow)? {
+            Search::Reached(seen) => draw(flow, &seen)?,
+            Search::Stuck(seen) => return Ok(seen),
+        }
+    }
+    Err(Memory)
+}

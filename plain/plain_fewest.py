@@ -1,0 +1,282 @@
+#!/usr/bin/python3
+"""The fewest NENs of a contest, plainly and in two ways.
+
+`by_choice` writes down every order that elects another candidate and which NENs of at least the best margin refute it, and tries choices of NENs until
+the fewest are found that refute each order which no NEB of at least that margin refutes. `by_flow` counts them as what can flow between sets of
+candidates, from nobody's set to that of all: a step that such a NEB refutes lets nothing through, one that such a NEN refutes lets one through, and any
+other one as many as come. Neither looks at what the suite prints.
+
+    plain/plain_fewest.py BALLOTS
+"""
+import functools
+import itertools
+import sys
+from collections import Counter
+from typing import NamedTuple
+
+import plain
+import plain_sets
+
+
+def nebs(contest, least):
+    """Each NEB whose margin is at least that one."""
+    pairs = itertools.permutations(range(contest.n), 2)
+    return [("NEB", w, l) for w, l in pairs if contest.margin(("NEB", w, l)) >= max(least, 1)]
+
+
+# ---- by choice
+
+
+@functools.lru_cache(maxsize=None)
+def orders_of(n, winner):
+    return [order for order in itertools.permutations(range(n)) if order[-1] != winner]
+
+
+@functools.lru_cache(maxsize=None)
+def refuted(n, winner, assertion):
+    """The orders that an assertion refutes, as bits by their places."""
+    return sum(1 << at for at, order in enumerate(orders_of(n, winner)) if plain.refutes(assertion, order))
+
+
+def nen_choices(contest, winner, least):
+    """Which orders a NEN of the margin refutes, each set of them once."""
+    found = set()
+    for size in range(2, contest.n + 1):
+        for rest in map(frozenset, itertools.combinations(range(contest.n), size)):
+            votes = contest.tally(rest)
+            for w, l in itertools.permutations(rest, 2):
+                if votes[w] - votes[l] >= max(least, 1):
+                    found.add(refuted(contest.n, winner, ("NEN", w, l, rest)))
+    return found
+
+
+def places_of(bits):
+    while bits:
+        yield (bits & -bits).bit_length() - 1
+        bits &= bits - 1
+
+
+class Choices:
+    """The fewest sets that together have all of some places, by trying."""
+
+    def __init__(self, sets):
+        self.by_place = {}
+        for chosen in sets:
+            for at in places_of(chosen):
+                self.by_place.setdefault(at, []).append(chosen)
+        self.beside = {at: functools.reduce(int.__or__, having) for at, having in self.by_place.items()}
+
+    def apart(self, left):
+        """Some places of which no two are in one set: there have to be as many sets."""
+        count = 0
+        while left:
+            at = min(places_of(left), key=lambda at: self.beside[at].bit_count()) if count == 0 else (left & -left).bit_length() - 1
+            left &= ~self.beside[at]
+            count += 1
+        return count
+
+    def suffice(self, left, number):
+        if not left:
+            return True
+        if self.apart(left) > number:
+            return False
+        at = min(places_of(left), key=lambda at: len(self.by_place[at]))
+        return any(self.suffice(left & ~chosen, number - 1) for chosen in self.by_place[at])
+
+    def fewest(self, left):
+        return next(number for number in itertools.count(self.apart(left)) if self.suffice(left, number))
+
+
+def by_choice(contest, winner, least):
+    """How many NENs there have to be, beside all NEBs of the margin, so that each order is refuted."""
+    n = contest.n
+    left = (1 << len(orders_of(n, winner))) - 1
+    for assertion in nebs(contest, least):
+        left &= ~refuted(n, winner, assertion)
+    sets = {chosen & left for chosen in nen_choices(contest, winner, least)} - {0}
+    # What another set has all of is never needed.
+    widest = [chosen for chosen in sets if not any(chosen != other and chosen & other == chosen for other in sets)]
+    return Choices(widest).fewest(left)
+
+
+# ---- by flow
+
+
+class Steps:
+    """Which steps of a set there are, and which of them a NEN can cut; sets are bits. A step puts a candidate in front of a set."""
+
+    def __init__(self, contest, winner, least):
+        self.n, self.all, self.winner, self.least = contest.n, (1 << contest.n) - 1, winner, max(least, 1)
+        self.sums = plain_sets.Steps(contest)
+        # The winners of NEBs over a candidate have to be there before it may be put in front.
+        self.needs = [0] * contest.n
+        for _, w, l in nebs(contest, least):
+            self.needs[l] |= 1 << w
+        self.known = {}
+
+    def on(self, behind):
+        """The steps from a set that no NEB refutes, each with whether a NEN can cut it."""
+        if behind not in self.known:
+            outside = [c for c in range(self.n) if not behind >> c & 1 and (behind or c != self.winner)]
+            self.known[behind] = {c: self.is_cuttable(behind, c) for c in outside if not self.needs[c] & ~(behind | 1 << c)}
+        return self.known[behind]
+
+    def is_cuttable(self, behind, c):
+        if not behind:
+            return False
+        votes, fewest, _ = self.sums.votes(self.all & ~behind & ~(1 << c), c, behind)
+        return votes - fewest >= self.least
+
+
+class Flow:
+    """What flows over each step, as much as can."""
+
+    def __init__(self, steps):
+        self.steps, self.over, self.value = steps, Counter(), 0
+        self.into = {}  # the candidates over whose step something comes to a set
+        dead = set()
+        while self.pour(0, dead):
+            self.value += 1
+        while (way := self.way_back()) is not None:
+            self.move(way)
+
+    def goes(self, behind):
+        """Who may still be put in front of a set."""
+        return [c for c, cuttable in self.steps.on(behind).items() if not (cuttable and self.over[behind, c])]
+
+    def put(self, behind, c):
+        self.over[behind, c] += 1
+        self.into.setdefault(behind | 1 << c, set()).add(c)
+
+    def take(self, behind, c):
+        self.over[behind, c] -= 1
+        if not self.over[behind, c]:
+            del self.over[behind, c]
+            self.into[behind | 1 << c].discard(c)
+
+    def pour(self, behind, dead):
+        """One more by steps on alone, from this set to that of all; a set from which none goes on is dead for good."""
+        if behind == self.steps.all:
+            return True
+        for c in self.goes(behind):
+            if behind | 1 << c not in dead and self.pour(behind | 1 << c, dead):
+                self.put(behind, c)
+                return True
+        dead.add(behind)
+        return False
+
+    def reached(self):
+        """The sets that one more could still come to, each with the step by which it came first, and nobody's set; they end with that of all."""
+        come, queue = {0: None}, [0]
+        for behind in queue:
+            further = [(behind | 1 << c, (behind, c, True)) for c in self.goes(behind)]
+            further += [(behind ^ 1 << c, (behind ^ 1 << c, c, False)) for c in self.into.get(behind, ())]
+            for other, step in further:
+                if other not in come:
+                    come[other] = step
+                    if other == self.steps.all:
+                        return come
+                    queue.append(other)
+        return come
+
+    def way_back(self):
+        come = self.reached()
+        return come if self.steps.all in come else None
+
+    def move(self, come):
+        """One more on the way to the set of all, some steps of which may be taken back."""
+        at = self.steps.all
+        while come[at] is not None:
+            behind, c, on = come[at]
+            (self.put if on else self.take)(behind, c)
+            at = behind if on else behind | 1 << c
+        self.value += 1
+
+    def orders(self):
+        """The flow taken apart: as many orders, each from all candidates back to nobody."""
+        left, into, found = Counter(self.over), {behind: set(cs) for behind, cs in self.into.items()}, []
+        for _ in range(self.value):
+            behind, order = self.steps.all, []
+            while behind:
+                c = next(iter(into[behind]))
+                order.append(c)
+                behind ^= 1 << c
+                left[behind, c] -= 1
+                if not left[behind, c]:
+                    into[behind | 1 << c].discard(c)
+            found.append(tuple(order))
+        return found
+
+
+def by_flow(steps):
+    """How many NENs there have to be, beside all NEBs of the margin: there are as many orders of which no NEN refutes two."""
+    flow, seen = Flow(steps), set()
+    for order in flow.orders():
+        assert order[-1] != steps.winner and sorted(order) == list(range(steps.n))
+        for place, c in enumerate(order):
+            behind = sum(1 << other for other in order[place + 1:])
+            assert not (steps.on(behind)[c] and (behind, c) in seen)
+            seen.add((behind, c))
+    return flow.value
+
+
+def standing(steps):
+    """How many sets stand beside the NEBs of the margin alone, which is what a budget of sets is compared with."""
+    seen, stack = {0}, [0]
+    while stack:
+        behind = stack.pop()
+        for c in steps.on(behind):
+            further = behind | 1 << c
+            if further not in seen and further != steps.all:
+                seen.add(further)
+                stack.append(further)
+    return len(seen) - 1
+
+
+class Found(NamedTuple):
+    """What a search for the fewest NENs comes to: the best margin with the order, the fewest NENs there can be, and the sets that have to be within
+    the budget."""
+
+    best: int
+    order: tuple
+    nens: int
+    sets: int
+
+
+def found(contest):
+    came = plain_sets.found(contest)
+    if not came.best:
+        return Found(0, came.order, 0, came.sets)
+    steps = Steps(contest, plain.tabulated(contest)[0][-1], came.best)
+    return Found(came.best, came.order, by_flow(steps), max(came.sets, standing(steps)))
+
+
+def otherwise(contest, came, sets, floor=1):
+    """Status and text of a search that doesn't print assertions, or None."""
+    order, hardness = plain_sets.start(contest)
+    if hardness and came.sets > sets:
+        return 4, f"spent\nsets {sets}\norder {','.join(contest.ids[c] for c in order)}\nmargin {hardness}\n"
+    if not came.best:
+        try:
+            plain.decided(contest)
+        except plain.Tie as tie:
+            return 3, str(tie)
+    if came.best < floor:
+        return 5, f"full count\norder {','.join(contest.ids[c] for c in came.order)}\nmargin {came.best}\nfloor {floor}\n"
+    return None
+
+
+def main():
+    contest = plain.read(sys.argv[1])
+    winner, best = plain.tabulated(contest)[0][-1], plain_sets.found(contest).best
+    if not best:
+        sys.exit("ways of breaking ties elect different candidates")
+    steps = Steps(contest, winner, best)
+    flow = Flow(steps)
+    print(f"margin {best}\nnens {flow.value}\nsets {standing(steps)}")
+    for order in flow.orders():
+        print("order " + ",".join(contest.ids[c] for c in order))
+
+
+if __name__ == "__main__":
+    main()

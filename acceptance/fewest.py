@@ -5,7 +5,8 @@ acceptance/fewest.py PROGRAM [CONTESTS] makes so many contests of 2 to 6 candida
 search has to print as many NENs as plain_fewest.py finds there have to be, by trying choices of them in the small contests and by a flow in all. Each
 assertion has to have its margin, the smallest of which is the best one, and the order is that of the certificate. `check` says yes to what is printed, and
 refuses it with `no: order .. stands` where any one assertion is left out. At one worker and at eight the bytes are the same. With just as many sets as have to
-stand it is answered, and with one fewer it is spent. The last line says how many agreed.
+stand it is answered, and with one fewer it is spent. All of that is tried again with a gap below the best margin. If it leaves that margin as the least one, the
+bytes are the same. If a smaller margin is used, the file has no order. The last line says how many agreed.
 """
 import json
 import multiprocessing.pool
@@ -18,9 +19,11 @@ import places  # noqa: F401
 import compare
 import plain
 import plain_fewest
+import plain_sets
 from draws import Draws
 from limits import MOST_SETS, MOST_WORKERS
 
+GAPS = (1, 20, 50, 100, 250, 500)  # thousandths of the best margin
 MOST_LEFT_OUT = 20  # assertions of a file of which each one is left out in turn; of more so many
 
 
@@ -48,11 +51,20 @@ class Contest:
             self.says(f"{' '.join(words)}: wanted {str(wanted)[:400]}, got {str(got)[:400]}")
 
     def search(self, *more):
-        return ran(self.program, "search", self.ballots, "--fewest", *more)
+        return ran(self.program, "search", self.ballots, "--fewest", *self.by_gap, *more)
 
     def judge(self):
+        self.by_gap = ()
+        without = self.answer(0)
+        gap = GAPS[self.number % len(GAPS)]
+        self.by_gap = (f"--gap={gap}",)
+        got, best = self.answer(gap), plain_sets.found(self.contest).best
+        if plain_fewest.least_margin(best, gap) == max(best, 1) and got != without:
+            self.says(f"a gap of {gap} leaves the best margin, and prints something else")
+
+    def answer(self, gap):
         contest, is_small = self.contest, self.contest.n <= 6
-        came = plain_fewest.found(contest)
+        came = plain_fewest.found(contest, gap)
         got = self.search("--workers=1")
         if self.search(f"--workers={MOST_WORKERS}") != got:
             self.says("eight workers print something else than one")
@@ -63,9 +75,10 @@ class Contest:
             self.says(f"it isn't answered: {str(got)[:400]}")
         else:
             self.file(got[1], came)
-            if is_small and (chosen := plain_fewest.by_choice(contest, plain.tabulated(contest)[0][-1], came.best)) != came.nens:
+            if is_small and (chosen := plain_fewest.by_choice(contest, plain.tabulated(contest)[0][-1], came.least)) != came.nens:
                 self.says(f"{chosen} NENs by choice, {came.nens} by flow")
         self.budgets(came)
+        return got
 
     def budgets(self, came):
         """As many sets as have to stand, or one fewer; and a floor above the margin."""
@@ -77,21 +90,24 @@ class Contest:
             elif wanted is None or more != (*wanted, ""):
                 self.says(f"with {sets} sets: wanted {wanted or 'a file'}, got {str(more)[:400]}")
         floor = came.best + 1
-        self.see(plain_fewest.otherwise(self.contest, came, MOST_SETS, floor), "search", self.ballots, "--fewest", f"--floor={floor}")
+        self.see(plain_fewest.otherwise(self.contest, came, MOST_SETS, floor), "search", self.ballots, "--fewest", *self.by_gap, f"--floor={floor}")
 
     def file(self, text, came, sets=MOST_SETS):
         contest, value = self.contest, json.loads(text)
         winner = plain.tabulated(contest)[0][-1]
         read = plain.read_assertions(text.encode())
-        if text != plain.text_of(contest, winner, came.best, came.order, dict(read["assertions"]), None):
-            self.says(f"it isn't in the form of a file of the best margin and its order: {text[:400]}")
+        own = min(margin for _, margin in read["assertions"])
+        order = came.order if own == came.best else None
+        if own > came.best or text != plain.text_of(contest, winner, own, order, dict(read["assertions"]), None):
+            self.says(f"it isn't in the form of a file of its smallest margin, with the order where that is the best one: {text[:400]}")
         for assertion, margin in read["assertions"]:
-            if margin != contest.margin(assertion) or margin < came.best:
-                self.says(f"{assertion} has another margin than {margin}, or less than the best one")
+            if margin != contest.margin(assertion) or margin < came.least:
+                self.says(f"{assertion} has another margin than {margin}, or less than the least one")
         nens = [assertion for assertion, _ in read["assertions"] if assertion[0] == "NEN"]
         if len(nens) != came.nens:
             self.says(f"{len(nens)} NENs, where {came.nens} are enough")
-        self.checked(value, (0, f"yes\nassertions {len(value['assertions'])}\nmargin {came.best}\n"), sets)
+        not_best = "" if order else "not said to be best\n"
+        self.checked(value, (0, f"yes\nassertions {len(value['assertions'])}\nmargin {own}\n{not_best}"), sets)
         if sets == MOST_SETS:
             self.left_out(value)
 

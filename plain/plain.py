@@ -193,10 +193,14 @@ def text_of(contest, winner, best, order, claims, plan):
         shown.append(claim)
     value = {
         "assertions": shown, "candidates": ids, "contest": contest.name, "margin": best,
-        "order": [ids[c] for c in order], "records": contest.records, "version": 1, "winner": ids[winner],
+        "records": contest.records, "version": 1, "winner": ids[winner],
     }
     if plan:
         value |= {**plan._asdict(), "version": 2}
+    if order is None:
+        value["version"] = 3
+    else:
+        value["order"] = [ids[c] for c in order]
     return json.dumps(value, sort_keys=True, separators=(",", ":")) + "\n"
 
 

@@ -15,6 +15,7 @@ import re
 import sys
 
 import plain
+import plain_adopt
 import plain_contests
 import plain_plurality
 import plain_poll
@@ -426,6 +427,11 @@ def check(options, ballots, assertions):
     return judged(assertions, plain.judge, contest, read(assertions), budget_of(options))
 
 
+def adopt(options, ballots, claims):
+    contest = judged(ballots, ballots_of, read(ballots), options.get("contest"))
+    return judged(claims, plain_adopt.adopted, contest, read(claims), budget_of(options))
+
+
 def trim(options, ballots, assertions):
     contest = judged(ballots, ballots_of, read(ballots), options.get("contest"))
     data, budget = read(assertions), budget_of(options)
@@ -707,6 +713,7 @@ COMMANDS = {
     "search": (search, 1, "", "contest workers nodes sets floor"),
     "check": (check, 2, "", "contest nodes sets"),
     "trim": (trim, 2, "", "contest nodes sets"),
+    "adopt": (adopt, 2, "", "contest nodes sets"),
     "sample": (sample, 1, "seed draws", ""),
     "plan": (plan, 2, "", "limit gamma"),
     "open": (open_session, 3, "seed", "contest limit gamma nodes sets"),

@@ -1,12 +1,13 @@
 #!/usr/bin/python3
 """The fewest NENs of a contest, plainly and in two ways.
 
-`by_choice` writes down every order that elects another candidate and which NENs of at least the best margin refute it, and tries choices of NENs until
-the fewest are found that refute each order which no NEB of at least that margin refutes. `by_flow` counts them as what can flow between sets of
-candidates, from nobody's set to that of all: a step that such a NEB refutes lets nothing through, one that such a NEN refutes lets one through, and any
-other one as many as come. Neither looks at what the suite prints.
+`by_choice` writes down every order that elects another candidate and which NENs of at least the least margin refute it, and tries choices of NENs until
+the fewest are found that refute each order which no NEB of at least that margin refutes. The least margin is the best one, or less by a gap.
 
-    plain/plain_fewest.py BALLOTS
+`by_flow` counts them as what can flow between sets of candidates, from nobody's set to that of all: a step that such a NEB refutes lets nothing through,
+one that such a NEN refutes lets one through, and any other one lets any number through. Neither looks at what the suite prints.
+
+    plain/plain_fewest.py BALLOTS [GAP]
 """
 import functools
 import itertools
@@ -16,6 +17,11 @@ from typing import NamedTuple
 
 import plain
 import plain_sets
+
+
+def least_margin(best, gap):
+    """The best margin less that many thousandths of it, rounded up, and at least one vote."""
+    return max(1, best - best * gap // 1000)
 
 
 def nebs(contest, least):
@@ -234,21 +240,24 @@ def standing(steps):
 
 
 class Found(NamedTuple):
-    """What a search for the fewest NENs comes to: the best margin with the order, the fewest NENs there can be, and the sets that have to be within
-    the budget."""
+    """What a search for the fewest NENs comes to: the best margin with the order, the least margin, the fewest NENs there can be, and the sets that
+    have to be within the budget, which are counted at the best margin."""
 
     best: int
+    least: int
     order: tuple
     nens: int
     sets: int
 
 
-def found(contest):
+def found(contest, gap=0):
     came = plain_sets.found(contest)
     if not came.best:
-        return Found(0, came.order, 0, came.sets)
-    steps = Steps(contest, plain.tabulated(contest)[0][-1], came.best)
-    return Found(came.best, came.order, by_flow(steps), max(came.sets, standing(steps)))
+        return Found(0, 0, came.order, 0, came.sets)
+    winner, least = plain.tabulated(contest)[0][-1], least_margin(came.best, gap)
+    at_best = Steps(contest, winner, came.best)
+    steps = at_best if least == came.best else Steps(contest, winner, least)
+    return Found(came.best, least, came.order, by_flow(steps), max(came.sets, standing(at_best)))
 
 
 def otherwise(contest, came, sets, floor=1):
@@ -267,13 +276,13 @@ def otherwise(contest, came, sets, floor=1):
 
 
 def main():
-    contest = plain.read(sys.argv[1])
+    contest, gap = plain.read(sys.argv[1]), int(sys.argv[2]) if len(sys.argv) > 2 else 0
     winner, best = plain.tabulated(contest)[0][-1], plain_sets.found(contest).best
     if not best:
         sys.exit("ways of breaking ties elect different candidates")
-    steps = Steps(contest, winner, best)
-    flow = Flow(steps)
-    print(f"margin {best}\nnens {flow.value}\nsets {standing(steps)}")
+    least = least_margin(best, gap)
+    flow = Flow(Steps(contest, winner, least))
+    print(f"margin {least}\nnens {flow.value}\nsets {standing(Steps(contest, winner, best))}")
     for order in flow.orders():
         print("order " + ",".join(contest.ids[c] for c in order))
 

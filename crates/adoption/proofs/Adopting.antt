@@ -133,12 +133,21 @@ module _ (ballots : BallotFile) (claims : Claimed) (sound : AreSound (length bal
           plan = tt;
         }
 
+    pub is_proof : IsProof n claims.winner ballots.rankings claims.assertions
+    is_proof = record {
+      proper = list_all-each (is_proper n) claims.assertions
+          (λ a k. All-contains (λ a. IsTrue (is_proper n a)) claims.assertions a sound.proper (contains-from_member k));
+      hold = hold;
+      cover = covers-more n claims.winner once claims.assertions (λ a k. (once-from n claims.assertions a k).0) cover;
+    }
+
     pub file-adopted : IsWinner n ballots.rankings claims.winner → IsAdopted ballots claims file
     file-adopted won =
         let (a, m) = some-assertion are cover in
         let proper = proper-once n claims.assertions in
         let (smallest, among, is) = smallest-claim n ballots.rankings once proper holds-once a m in
         record {
+          proof = is_proof;
           holds = record {
             contest = refl;
             candidates = refl;
@@ -211,11 +220,7 @@ module _ (budget : Budget) (ballots : BallotFile) (claims : Claimed) (are : AreC
   proves : (file : Content) → IsAnswer budget ballots claims (Ok (Adopted file)) → Proves
   proves file answer =
       let h = adopts file answer in (
-        record {
-          proper = list_all-each (is_proper m) claims.assertions (λ a k. All-contains (λ a. IsTrue (is_proper m a)) claims.assertions a sound.proper (contains-from_member k));
-          hold = h.hold;
-          cover = covers-more m claims.winner (each_once m claims.assertions) claims.assertions (λ a k. (once-from m claims.assertions a k).0) (covers-of file h);
-        },
+        (adopted_is file answer).proof,
         covered-enough m claims.winner (each_once m claims.assertions) budget h.covered,
       )
 

@@ -7,6 +7,7 @@ use Rattle.assertions.specs.declared.assertion.Claim.{Claim}
 use Rattle.assertions.specs.Assertions.{assertions}
 use Rattle.assertions.specs.Certificate.{claim_of, is_same}
 use Rattle.assertions.specs.FixedOrder.{is_before}
+use Rattle.assertions.specs.Laws.{IsProof}
 use Rattle.ballot_reader.specs.Ballots.{BallotFile}
 use Rattle.assertion_file.specs.Content.{Content, margins_of}
 use Rattle.claims_file.specs.Claimed.{Claimed}
@@ -45,9 +46,10 @@ adopted_file ballots claims =
 
 -- ---- as one reads it
 
--- the file holds of the ballots: its claims are true with its margins, and refute every order that elects another candidate than its
--- winner; they are the claims that were made, each once, in the fixed order
+-- the claims that were made are a proof of their winner: each is true of the records, and they refute every order that elects another
+-- candidate; the file holds of the ballots, and has these claims with their margins, each once, in the fixed order
 pub record IsAdopted (ballots : BallotFile) (claims : Claimed) (file : Content) : Type 0 where
+  pub proof : IsProof (length ballots.candidates) claims.winner ballots.rankings claims.assertions
   pub holds : Holds ballots file
   pub winner : file.winner ≡ claims.winner
   pub same : (a : Assertion) → (Contains (assertions_of file) a ↔ Contains claims.assertions a)

@@ -15,6 +15,7 @@ use Rattle.cli_base.proofs.Statuses.{answer_verdict, stopped}
 use Rattle.command.specs.declared.search_fewest.SearchFewestTask.{SearchFewestTask}
 use Rattle.command_line.specs.declared.commands.Command.TheVariants.{SearchFewest}
 use Rattle.command_line.proofs.Checked.{are_checked}
+use Rattle.contest_search.specs.Fewest.{with_own_margin}
 use Rattle.contest_search.proofs.FewestAccepted.{accepted_with}
 use Rattle.input_files.specs.Refusals.{refused_ballots}
 use Rattle.search_commands.specs.Search.{has_cards, plan_by, printed}
@@ -41,7 +42,7 @@ module _ {words : List (List ℕ)} (files : List File) (search : Asks SearchFewe
     pub ballots : BallotFile
     pub read : ballots_of bytes task.contest ≡ Ok ballots
     pub cards : has_cards task.plan ballots ≡ true
-    pub has : HasFewest task.sets task.floor task.plan ballots text
+    pub has : HasFewest task.sets task.gap task.floor task.plan ballots text
 
   found_by : (d : Outcome) → d.status ≡ 0 → May (AsHeld files) (script task) d → Found d.out
   found_by d zero may = elim (ended (AsHeld files) (script task) d may) [
@@ -58,7 +59,7 @@ module _ {words : List (List ℕ)} (files : List File) (search : Asks SearchFewe
           ballots = came.value;
           read = came.is;
           cards = cards;
-          has = done_is task.sets task.floor task.plan came.value d.out finds;
+          has = done_is task.sets task.gap task.floor task.plan came.value d.out finds;
         }
     | inr (name, reading, reaches, there, stops) ↦ absurd (stopped 0 name reading d stops zero refl refl refl)
   ]
@@ -80,7 +81,7 @@ module _ {words : List (List ℕ)} (files : List File) (search : Asks SearchFewe
         let file = f.has.file in
         let limits = (are_checked words (SearchFewest task) search.asked).plan in
         let records : file.records ≡ length f.ballots.rankings = ap (λ (f : Content). f.records) f.has.is.is in
-        let (holds, reads, accepted) = accepted_with task.sets f.bytes task.contest f.ballots file (option_map (plan_by file) task.plan) f.read f.has.is
+        let (holds, reads, accepted) = accepted_with task.sets task.gap f.bytes task.contest f.ballots file (option_map (plan_by file) task.plan) f.read f.has.is
         (sound_by task.plan f.ballots file records limits f.cards) (clean_by task.plan file) in
         record {
           bytes = f.bytes;
@@ -88,8 +89,8 @@ module _ {words : List (List ℕ)} (files : List File) (search : Asks SearchFewe
           is_short = f.is_short;
           ballots = f.ballots;
           read = f.read;
-          file = printed task.plan file;
-          reads = subst (λ t. assertion_file_of t ≡ Ok (printed task.plan file)) (sym f.has.shown) reads;
+          file = printed task.plan (with_own_margin file);
+          reads = subst (λ t. assertion_file_of t ≡ Ok (printed task.plan (with_own_margin file))) (sym f.has.shown) reads;
           accepted = accepted;
         }
 

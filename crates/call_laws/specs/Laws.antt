@@ -10,7 +10,9 @@ use Rattle.session_state.specs.Content.{Content}
 use Rattle.session_state.specs.Sessions.{is_signed_off}
 use Rattle.session_state.specs.RiskOfValues.{MayBeSignedOff}
 use Rattle.audit_session.specs.Laws.{AreTrueEntries}
-use Rattle.ballot_reader.specs.Ballots.{BallotFile}
+use Rattle.ballot_reader.specs.Ballots.{BallotFile, AreCandidates}
+use Rattle.claims_file.specs.Claimed.{AreSound, Claimed}
+use Rattle.adoption.specs.Adopted.{each_once}
 use Rattle.cli_base.specs.Outcome.{Outcome}
 use Rattle.cli_base.specs.Script.{AsHeld, ByDesk, IsDue, MayCome, SameButBudget}
 use Rattle.command.specs.declared.search.SearchTask.{SearchTask}
@@ -115,6 +117,14 @@ abbrev pub MostSetsSufficeToCheck : Type 0
 MostSetsSufficeToCheck =
     (file : FileContent) → IsSound file → count_in file ≤ 20 →
     standing_sets (count_in file) file.winner (assertions_of file) ≤ MOST_SETS
+
+-- They do if claims are adopted.
+abbrev pub MostSetsSufficeToAdopt : Type 0
+MostSetsSufficeToAdopt =
+    (ballots : BallotFile) (claims : Claimed) → AreCandidates ballots.candidates →
+    AreSound (candidate_count ballots) claims → candidate_count ballots ≤ 20 →
+    standing_sets (candidate_count ballots) claims.winner
+    (each_once (candidate_count ballots) claims.assertions) ≤ MOST_SETS
 
 -- A session that an audit signs off is one that the risk limit counts, if the drawn cards were read as they are; also among longer
 -- sequences.

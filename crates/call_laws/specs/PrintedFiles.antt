@@ -17,6 +17,7 @@ use Rattle.call_laws.specs.Agreement.{Call, Failed, IsSettled}
 use Rattle.raire_cli.specs.Answers.{asked}
 use Rattle.raire_cli.specs.Confirmation.{AsksFor}
 use Rattle.raire_cli.specs.Fewest.{AsksForFewest}
+use Rattle.raire_cli.specs.Held.{AreBallots}
 
 -- The call was of these words, over a desk that holds these files. It ended with status 0, and `out`, which reports what it takes, took
 -- this text.
@@ -38,7 +39,13 @@ pub record HoldsPrinted (own : List ℕ) (files more : List File)
   pub printed : held_bytes assertions more ≡ Some text
   pub is_short : length text ≤ MOST_FILE_BYTES
 
--- Under this name it holds a manifest that is accepted, and that has a card of each ballot of the search.
+-- the words ask to adopt claims about these ballots
+pub record AsksToAdopt (words : List (List ℕ)) (files : List File) (ballots : BallotFile)
+    : Type 0 where
+  pub adopt : Asks Adopt words
+  pub are : AreBallots files adopt.task.ballots adopt.task.contest ballots
+
+-- Under this name it holds a manifest that is accepted, and that has a card of each ballot of the search or the adoption.
 pub record HoldsCards (words : List (List ℕ)) (files more : List File)
     (manifest : List ℕ) : Type 0 where
   pub bytes : List ℕ
@@ -48,6 +55,8 @@ pub record HoldsCards (words : List (List ℕ)) (files more : List File)
   pub accepted : manifest_of bytes ≡ Ok batches
   pub placed : (ballots : BallotFile) (winner : ℕ) →
       AsksFor words files ballots winner ⊎ AsksForFewest words files ballots winner →
+      first_without_card batches ballots ≡ None
+  pub placed_adopted : (ballots : BallotFile) → AsksToAdopt words files ballots →
       first_without_card batches ballots ≡ None
 
 -- ---- the words of the later call
@@ -127,7 +136,17 @@ AdoptedIsAccepted =
     HoldsPrinted adopt.task.ballots files more text check.asks.task.ballots check.asks.task.assertions →
     IsSettled others more second → second.status ≡ 0
 
--- Trimmed again it is printed as it is, unless the budget is spent.
+-- A session is opened with it, if each ballot has a card.
+abbrev pub AdoptedIsOpened : Type 0
+AdoptedIsOpened =
+    (words others : List (List ℕ)) (adopt : Asks Adopt words)
+    (opening : OpensTheSame adopt.task.contest adopt.task.budget others)
+    (files more : List File) (first second : Call) (text : List ℕ) →
+    HasPrinted words files first text →
+    HoldsPrinted adopt.task.ballots files more text opening.asks.task.ballots opening.asks.task.assertions →
+    HoldsCards words files more opening.asks.task.manifest → IsSettled others more second → second.status ≡ 0
+
+-- What a trim printed is printed as it is by another trim, unless the budget is spent.
 abbrev pub TrimmedIsTrimmed : Type 0
 TrimmedIsTrimmed =
     (words others : List (List ℕ)) (trim : Asks Trim words)

@@ -4,11 +4,11 @@ ghost use Rattle.call_laws.specs.ContestsAlone.{BlockAlone};
 ghost use Rattle.call_laws.specs.ContestsLimit.{ContestIsCounted};
 ghost use Rattle.call_laws.specs.ContestsSignedOff.{ContestSignedOffAreFew};
 ghost use Rattle.call_laws.specs.EachStatus.{EachStatus};
-ghost use Rattle.call_laws.specs.Laws.{WorkersAskTheSame, WorkersComeToTheSame, TrialsComeToTheSame, SetsComeToTheSame, FewestComeToTheSameStatus, TrialsBySetsComeToTheSame, BudgetsComeToTheSame, DefaultSuffices, MostSetsSuffice, MostSetsSufficeToCheck, SignedOffIsCounted};
+ghost use Rattle.call_laws.specs.Laws.{WorkersAskTheSame, WorkersComeToTheSame, TrialsComeToTheSame, SetsComeToTheSame, FewestComeToTheSameStatus, TrialsBySetsComeToTheSame, BudgetsComeToTheSame, DefaultSuffices, MostSetsSuffice, MostSetsSufficeToAdopt, MostSetsSufficeToCheck, SignedOffIsCounted};
 ghost use Rattle.call_laws.specs.PluralLaws.{PluralSignedOffAreFew, PluralSignedOffIsCounted};
 ghost use Rattle.call_laws.specs.PollLaws.{ConfirmedAreFew, ConfirmedIsCounted};
 ghost use Rattle.call_laws.specs.EachPollLaws.{EachConfirmedAreFew, EachConfirmedIsCounted};
-ghost use Rattle.call_laws.specs.PrintedFiles.{FewestIsAccepted, FewestIsOpened, AdoptedIsAccepted, PrintedIsAccepted, PrintedIsOpened, TrimmedIsAccepted, TrimmedIsTrimmed};
+ghost use Rattle.call_laws.specs.PrintedFiles.{FewestIsAccepted, FewestIsOpened, AdoptedIsAccepted, AdoptedIsOpened, PrintedIsAccepted, PrintedIsOpened, TrimmedIsAccepted, TrimmedIsTrimmed};
 ghost use Rattle.call_laws.specs.ReadFaults.{SecondIsNamed};
 ghost use Rattle.call_laws.specs.SignedOff.{SignedOffAreFew};
 
@@ -60,6 +60,11 @@ pub fn most_sets_suffice()
 /// The same holds for a check of an assertion file of up to twenty candidates.
 pub fn most_sets_suffice_to_check()
     ensures { MostSetsSufficeToCheck }
+{}
+
+/// The same holds for an adoption of claims about up to twenty candidates.
+pub fn most_sets_suffice_to_adopt()
+    ensures { MostSetsSufficeToAdopt }
 {}
 
 /// A session that an audit signs off is among those that the risk limit counts, if each drawn card was read as it is, or is missing.
@@ -180,6 +185,12 @@ pub fn trimmed_is_trimmed()
 /// nothing failed and memory was found.
 pub fn adopted_is_accepted()
     ensures { AdoptedIsAccepted }
+{}
+
+/// A session is opened with what an adoption printed, if that isn't too long for a file, the contest is the same, the manifest has a card
+/// for each ballot, nothing failed and memory was found.
+pub fn adopted_is_opened()
+    ensures { AdoptedIsOpened }
 {}
 
 /// Each status comes of some words and files, but 7, 8 and 9, which come of a desk, a sink or memory.

@@ -54,13 +54,13 @@ some-one e = cc
 
 -- ---- the members
 
-heading-with : (value : Data) (assertions : List Data) (ids : List Id) (contest winner : Id) → list_in (codes "assertions") value ≡ Some assertions →
+pub heading-with : (value : Data) (assertions : List Data) (ids : List Id) (contest winner : Id) → list_in (codes "assertions") value ≡ Some assertions →
     texts_in (codes "candidates") value ≡ Some ids → text_in (codes "contest") value ≡ Some contest → text_in (codes "winner") value ≡ Some winner →
     heading_in value ≡ Some (record { assertions = assertions; candidates = ids; contest = contest; winner = winner })
 unfolding heading_in
 heading-with value assertions ids contest winner a c n w = rw (a, c, n, w) refl
 
-entry-with : (value : Data) (kind winner loser : Id) (rest : Option (List Id)) → text_in (codes "kind") value ≡ Some kind →
+pub entry-with : (value : Data) (kind winner loser : Id) (rest : Option (List Id)) → text_in (codes "kind") value ≡ Some kind →
     text_in (codes "winner") value ≡ Some winner → text_in (codes "loser") value ≡ Some loser → rest_in kind value ≡ Some rest →
     entry_in value ≡ Some (record { winner = winner; loser = loser; rest = rest })
 unfolding entry_in
@@ -172,13 +172,13 @@ ids-are ids = sym (fill_by_all (id_of ids) ids (length ids) [] refl (λ k below.
 below-all : (ids : List Id) (c : ℕ) → Member c (candidates (length ids)) → c < length ids
 below-all ids c m = from_candidates m
 
-among-own : (ids : List Id) → list_all (is_among ids) ids ≡ true
+pub among-own : (ids : List Id) → list_all (is_among ids) ids ≡ true
 among-own ids = ap (list_all (is_among ids)) (sym (ids-are ids)) ∙ all-among ids (candidates (length ids)) (below-all ids)
 
 numbers-own : (ids : List Id) → all_differ ids ≡ true → numbers_of ids ids ≡ candidates (length ids)
 numbers-own ids differ = ap (numbers_of ids) (sym (ids-are ids)) ∙ numbers-ids ids (candidates (length ids)) differ (below-all ids)
 
-order-own : (ids : List Id) → all_differ ids ≡ true → is_order (length ids) (numbers_of ids ids) ≡ true
+pub order-own : (ids : List Id) → all_differ ids ≡ true → is_order (length ids) (numbers_of ids ids) ≡ true
 order-own ids differ =
     ap (is_order (length ids)) (numbers-own ids differ)
     ∙ order_test (length ids) (candidates (length ids)) (length-range_with_len 0 (length ids)) (distinct-range 0 (length ids)) (below-all ids)

@@ -98,14 +98,14 @@ module _ (ids : List Id) where
     by None e = let bad = sym (claims-none contest ids value e) ∙ h in absurd cc
     by (Some heading) e = on heading (judged (heading_rules contest ids heading) heading) refl (sym (claims-some contest ids heading value e) ∙ h)
 
-  pub each-sound : (contest : Id) (value : Data) (r : Result Claimed (Fault CRule)) → IfOk r (λ claims. claims_in contest ids value ≡ Ok claims) →
-      IfOk r (AreSound (length ids))
-  each-sound contest value (Ok claims) h = in-sound contest value claims h
-  each-sound contest value (Err fault) h = h
-
   pub claims-sound : (contest : Id) (bytes : List ℕ) (claims : Claimed) → claims_of contest ids bytes ≡ Ok claims → AreSound (length ids) claims
   unfolding claims_of
   claims-sound contest bytes claims h = by (json_of bytes) refl h where
     by : (o : Option Data) → json_of bytes ≡ o → (located 0 (ok_or o C1) >>= claims_in contest ids) ≡ Ok claims → AreSound (length ids) claims
     by None e g = absurd cc
     by (Some value) e g = in-sound contest value claims g
+
+  pub each-sound : (contest : Id) (bytes : List ℕ) (r : Result Claimed (Fault CRule)) → IfOk r (λ claims. claims_of contest ids bytes ≡ Ok claims) →
+      IfOk r (AreSound (length ids))
+  each-sound contest bytes (Ok claims) h = claims-sound contest bytes claims h
+  each-sound contest bytes (Err fault) h = h

@@ -1,4 +1,8 @@
 // Reading a claims file.
+//
+// The bytes are first read in the quick way, which knows two layouts. Bytes in another one, and all that are refused, are judged from the
+// tree of their values, which takes many times as much memory as the text. So there is one grammar, and no refusal comes from the quick
+// way.
 ghost use Rattle.std.specs.Prelude.{◌≡◌, ◌≤◌, Ok, length, IfOk, IfErr};
 ghost use Rattle.serde_json.specs.View.{view};
 ghost use Rattle.irv_base.specs.Orders.{is_order};
@@ -15,6 +19,7 @@ use crate::claims::Claims;
 use crate::fault::{CRule, ClaimsFault};
 use crate::listed::assertions;
 use crate::members::{Heading, heading_in};
+use crate::quick::quick_claims;
 use assertion_file::{candidate, numbers};
 use irv_base::{Candidate, Name, Order};
 use serde_json::Value;
@@ -89,6 +94,29 @@ fn claims_in(
     Ok(Claims { winner, assertions })
 }
 
+// Reads a claims file in any layout, from the tree of its values.
+fn read_tree(
+    alloc: Global,
+    contest: &Name,
+    names: &[Name],
+    bytes: &[u8],
+) -> Result<Claims, ClaimsFault>
+    requires some { 1 ≤ length names.now }
+    requires few { length names.now ≤ ROOM }
+    ensures read { IfOk result (λ claims. claims_of contest.now names.now bytes.now ≡ Ok claims) }
+    ensures refused { IfErr result (Refuses (claims_of contest.now names.now bytes.now)) }
+{
+    match Value::from_slice(alloc, bytes) {
+        Ok(value) => claims_in(alloc, contest, names, &value),
+        Err(e) => {
+            if e.is_memory() {
+                return Err(ClaimsFault::Memory);
+            }
+            Err(refused(CRule::C1))
+        }
+    }
+}
+
 /// Reads a claims file for the contest of this id, whose candidates have these names.
 ///
 /// The bytes are one JSON object, with its members in any order. Members of other names are skipped, the margin of an assertion among
@@ -100,6 +128,9 @@ fn claims_in(
 /// contest, each once, or the winner isn't one of them. Then comes each assertion, with its number from 1 as the place: C2 as above; C4 if
 /// one who is named isn't a candidate, or the winner is the loser; C5 if a NEN's rest repeats a candidate or lacks the winner or the
 /// loser.
+///
+/// Bytes in compact form, as `./raire import` writes them, and assertion files as `print_file` writes them, are read without a tree of
+/// their values.
 pub fn read_claims(
     alloc: Global,
     contest: &Name,
@@ -112,13 +143,8 @@ pub fn read_claims(
     ensures sound { IfOk result (AreSound (length names.now)) }
     ensures refused { IfErr result (Refuses (claims_of contest.now names.now bytes.now)) }
 {
-    match Value::from_slice(alloc, bytes) {
-        Ok(value) => claims_in(alloc, contest, names, &value),
-        Err(e) => {
-            if e.is_memory() {
-                return Err(ClaimsFault::Memory);
-            }
-            Err(refused(CRule::C1))
-        }
+    match quick_claims(alloc, contest, names, bytes) {
+        Some(claims) => Ok(claims),
+        None => read_tree(alloc, contest, names, bytes),
     }
 }

@@ -30,8 +30,8 @@ pub use check::CheckTask;
 pub use contests::ContestsTask;
 pub use file_name::FileName;
 pub use limits::{
-    DEFAULT_BALLOTS, DEFAULT_CANDIDATES, DEFAULT_FLOOR, DEFAULT_GAMMA, DEFAULT_LIMIT,
-    DEFAULT_WORKERS, MOST_FLOOR, MOST_TRIAL_NUMBER,
+    DEFAULT_BALLOTS, DEFAULT_CANDIDATES, DEFAULT_FLOOR, DEFAULT_GAMMA, DEFAULT_GAP, DEFAULT_LIMIT,
+    DEFAULT_WORKERS, MOST_FLOOR, MOST_GAP, MOST_TRIAL_NUMBER,
 };
 pub use open::OpenTask;
 pub use open_plurality::OpenPluralityTask;

@@ -18,6 +18,12 @@ pub const MOST_FLOOR: u32 = 1_000_000;
 /// The default floor.
 pub const DEFAULT_FLOOR: u32 = 1;
 
+/// The greatest gap below the best margin, in thousandths of it.
+pub const MOST_GAP: u32 = 500;
+
+/// The default gap.
+pub const DEFAULT_GAP: u32 = 0;
+
 /// The default risk limit, in millionths.
 pub const DEFAULT_LIMIT: u32 = 50_000;
 

@@ -17,6 +17,8 @@ pub struct SearchFewestTask {
     pub sets: u32,
     /// The least margin of a search, in votes.
     pub floor: u32,
+    /// How far below the best margin the margin may be, in thousandths of the best.
+    pub gap: u32,
     /// What the draws of a clean audit are planned for, if the assertion file is to carry them.
     pub plan: Option<PlanTerms>,
 }

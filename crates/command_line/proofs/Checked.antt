@@ -191,6 +191,7 @@ meaning_checked command.SearchFewest pieces line =
       workers = value option.Workers refl;
       sets = value option.FewestSets refl;
       floor = value option.Floor refl;
+      gap = (value option.Gap refl).1;
       plan = terms_checked pieces (given_number option.Cards pieces) (value option.Cards refl) (value option.Limit refl) (value option.Gamma refl);
     }
 meaning_checked command.Tabulate pieces line =

@@ -12,7 +12,7 @@ use Rattle.command_line.specs.Values.{is_best, is_number, is_number_within, numb
 use Rattle.irv_base.specs.declared.limits.TheConstants.{MOST_NUMBER_DIGITS}
 use Rattle.km_risk.specs.declared.limits.TheConstants.{GREATEST_EACH_GAMMA}
 use Rattle.command_line.specs.declared.table.OptionName.{OptionName}
-use Rattle.command_line.specs.declared.table.OptionName.TheVariants.{Contest, Workers, Nodes, Sets, FewestSets, Fewest, Floor, Cards, Draws, Limit, Gamma, EachGamma, Each, Candidates, Ballots}
+use Rattle.command_line.specs.declared.table.OptionName.TheVariants.{Contest, Workers, Nodes, Sets, FewestSets, Fewest, Floor, Gap, Cards, Draws, Limit, Gamma, EachGamma, Each, Candidates, Ballots}
 use Rattle.command_line.specs.declared.table.OptionName.TheVariants as option
 use Rattle.command_line.specs.declared.table.ValueKind.{ValueKind}
 use Rattle.command_line.specs.declared.table.ValueKind.TheVariants.{Id, Seed, Number, FreeNumber, NumberOrBest, Flag}
@@ -27,6 +27,7 @@ same_option Sets Sets h = refl
 same_option FewestSets FewestSets h = refl
 same_option Fewest Fewest h = refl
 same_option Floor Floor h = refl
+same_option Gap Gap h = refl
 same_option Cards Cards h = refl
 same_option option.Seed option.Seed h = refl
 same_option Draws Draws h = refl

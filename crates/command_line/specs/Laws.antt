@@ -39,10 +39,10 @@ use Rattle.command.specs.declared.poll_each.PollEachTask.{PollEachTask}
 use Rattle.command.specs.declared.open_plurality.OpenPluralityTask.{OpenPluralityTask}
 use Rattle.command.specs.declared.contests.ContestsTask.{ContestsTask}
 use Rattle.command.specs.declared.trial.TrialTask.{TrialTask}
-use Rattle.command.specs.declared.limits.TheConstants.{DEFAULT_WORKERS, DEFAULT_FLOOR, DEFAULT_LIMIT, DEFAULT_GAMMA, DEFAULT_CANDIDATES, DEFAULT_BALLOTS}
+use Rattle.command.specs.declared.limits.TheConstants.{DEFAULT_WORKERS, DEFAULT_FLOOR, DEFAULT_GAP, DEFAULT_LIMIT, DEFAULT_GAMMA, DEFAULT_CANDIDATES, DEFAULT_BALLOTS}
 use Rattle.command_line.specs.declared.table.CommandName.{CommandName}
 use Rattle.command_line.specs.declared.table.OptionName.{OptionName}
-use Rattle.command_line.specs.declared.table.OptionName.TheVariants.{Workers, Nodes, Sets, FewestSets, Fewest, Floor, Cards, Seed, Draws, Limit, Gamma, EachGamma, Each, Number, Candidates, Ballots}
+use Rattle.command_line.specs.declared.table.OptionName.TheVariants.{Workers, Nodes, Sets, FewestSets, Fewest, Floor, Gap, Cards, Seed, Draws, Limit, Gamma, EachGamma, Each, Number, Candidates, Ballots}
 
 -- Words are a line exactly if they have a meaning.
 abbrev pub LinesHaveMeanings : Type 0
@@ -108,6 +108,9 @@ pub record Examples : Type 0 where
   pub no_floor : is_taken Floor (codes "0") ≡ false
   pub most_floor : is_taken Floor (codes "1000000") ≡ true
   pub more_floor : is_taken Floor (codes "1000001") ≡ false
+  pub no_gap : is_taken Gap (codes "0") ≡ true
+  pub most_gap : is_taken Gap (codes "500") ≡ true
+  pub more_gap : is_taken Gap (codes "501") ≡ false
   pub least_cards : is_taken Cards (codes "1") ≡ true
   pub no_cards : is_taken Cards (codes "0") ≡ false
   pub most_cards : is_taken Cards (codes "10000000") ≡ true
@@ -224,6 +227,7 @@ default_search_fewest = record {
   workers = DEFAULT_WORKERS;
   sets = MOST_SETS;
   floor = DEFAULT_FLOOR;
+  gap = DEFAULT_GAP;
   plan = None;
 }
 
@@ -353,13 +357,14 @@ pub record Meanings : Type 0 where
       command_of (codes "search" ∷ codes "b" ∷ []) ≡ Some (Search default_search)
   pub search_fewest :
       command_of (codes "search" ∷ codes "--fewest" ∷ codes "b" ∷ codes "--contest=c"
-      ∷ codes "--workers=2" ∷ codes "--sets=3" ∷ codes "--floor=4" ∷ codes "--cards=5"
-      ∷ codes "--limit=6" ∷ codes "--gamma=7" ∷ [])
+      ∷ codes "--workers=2" ∷ codes "--sets=3" ∷ codes "--floor=4" ∷ codes "--gap=50"
+      ∷ codes "--cards=5" ∷ codes "--limit=6" ∷ codes "--gamma=7" ∷ [])
       ≡ Some (SearchFewest (record default_search_fewest {
         contest = Some (codes "c");
         workers = 2;
         sets = 3;
         floor = 4;
+        gap = 50;
         plan = Some (record { cards = 5; limit = 6; gamma = 7 });
       }))
   pub search_fewest_left_out :
@@ -559,6 +564,10 @@ pub record NoLines : Type 0 where
       is_line (codes "search" ∷ codes "b" ∷ codes "--fewest" ∷ codes "--limit=3" ∷ []) ≡ false
   pub fewest_of_a_trial :
       is_line (codes "trial" ∷ codes "--number=0" ∷ codes "--fewest" ∷ []) ≡ false
+  pub gap_without_fewest : is_line (codes "search" ∷ codes "b" ∷ codes "--gap=3" ∷ []) ≡ false
+  pub gap_twice :
+      is_line (codes "search" ∷ codes "b" ∷ codes "--fewest" ∷ codes "--gap=1" ∷ codes "--gap=1" ∷ [])
+      ≡ false
   pub hyphen_alone : is_line (codes "report" ∷ codes "-" ∷ []) ≡ false
   pub file_without_name : is_line (codes "report" ∷ codes "" ∷ []) ≡ false
   pub hyphen_as_value :

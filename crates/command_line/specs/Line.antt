@@ -15,7 +15,7 @@ use Rattle.command_line.specs.declared.table.Apart.{Apart}
 use Rattle.command_line.specs.declared.table.CommandName.{CommandName}
 use Rattle.command_line.specs.declared.table.CommandName.TheVariants as name
 use Rattle.command_line.specs.declared.table.OptionName.{OptionName}
-use Rattle.command_line.specs.declared.table.OptionName.TheVariants.{Contest, Workers, Nodes, Sets, FewestSets, Floor, Cards, Seed, Draws, Limit, Gamma, EachGamma, Number, Candidates, Ballots}
+use Rattle.command_line.specs.declared.table.OptionName.TheVariants.{Contest, Workers, Nodes, Sets, FewestSets, Floor, Gap, Cards, Seed, Draws, Limit, Gamma, EachGamma, Number, Candidates, Ballots}
 use Rattle.command_line.specs.declared.table.Together.{Together}
 
 -- ---- the rules
@@ -132,6 +132,7 @@ meaning name.SearchFewest pieces = SearchFewest (record {
   workers = number_of Workers pieces;
   sets = number_of FewestSets pieces;
   floor = number_of Floor pieces;
+  gap = number_of Gap pieces;
   plan = plan_terms pieces;
 })
 meaning name.Tabulate pieces = Tabulate (record {

@@ -3,7 +3,7 @@ use Rattle.std.specs.Prelude.{ℕ, Bool, true, false, List, [], ◌∷◌, None,
 use Rattle.irv_base.specs.declared.limits.TheConstants.{FEWEST_CANDIDATES, GREATEST_GAMMA, GREATEST_LIMIT, MOST_CANDIDATES, MOST_CARDS, MOST_DRAWS, MOST_RECORDS, MOST_WORKERS}
 use Rattle.budget.specs.declared.limits.TheConstants.{MOST_NODES, DEFAULT_NODES, MOST_SETS}
 use Rattle.km_risk.specs.declared.limits.TheConstants.{GREATEST_EACH_GAMMA}
-use Rattle.command.specs.declared.limits.TheConstants.{MOST_FLOOR, MOST_TRIAL_NUMBER, DEFAULT_WORKERS, DEFAULT_FLOOR, DEFAULT_LIMIT, DEFAULT_GAMMA, DEFAULT_CANDIDATES, DEFAULT_BALLOTS}
+use Rattle.command.specs.declared.limits.TheConstants.{MOST_FLOOR, MOST_GAP, MOST_TRIAL_NUMBER, DEFAULT_WORKERS, DEFAULT_FLOOR, DEFAULT_GAP, DEFAULT_LIMIT, DEFAULT_GAMMA, DEFAULT_CANDIDATES, DEFAULT_BALLOTS}
 use Rattle.command_line.specs.declared.table.Apart.{Apart}
 use Rattle.command_line.specs.declared.table.CommandName.{CommandName}
 use Rattle.command_line.specs.declared.table.CommandName.TheVariants.{Search, SearchFewest, Tabulate, Check, Trim, Adopt, Sample, Plan, Open, Audit, Report, Poll, PollEach, OpenPlurality, AuditPlurality, Contests, Trial}
@@ -43,7 +43,7 @@ form_of Search =
     }
 form_of SearchFewest =
     record (row (codes "search") (codes "ballots" ∷ [])
-    (option.Contest ∷ option.Workers ∷ option.FewestSets ∷ option.Floor ∷ option.Cards
+    (option.Contest ∷ option.Workers ∷ option.FewestSets ∷ option.Floor ∷ option.Gap ∷ option.Cards
     ∷ option.Limit ∷ option.Gamma ∷ option.Fewest ∷ [])) {
       together = record { option = option.Limit; with = option.Cards }
           ∷ record { option = option.Gamma; with = option.Cards } ∷ [];
@@ -108,6 +108,7 @@ text_of option.Sets = codes "sets"
 text_of option.FewestSets = codes "sets"
 text_of option.Fewest = codes "fewest"
 text_of option.Floor = codes "floor"
+text_of option.Gap = codes "gap"
 text_of option.Cards = codes "cards"
 text_of option.Seed = codes "seed"
 text_of option.Draws = codes "draws"
@@ -128,6 +129,7 @@ kind_of option.Sets = FreeNumber 1 MOST_SETS
 kind_of option.FewestSets = Number 1 MOST_SETS (Some MOST_SETS)
 kind_of option.Fewest = Flag
 kind_of option.Floor = Number 1 MOST_FLOOR (Some DEFAULT_FLOOR)
+kind_of option.Gap = Number 0 MOST_GAP (Some DEFAULT_GAP)
 kind_of option.Cards = FreeNumber 1 MOST_CARDS
 kind_of option.Seed = Seed
 kind_of option.Draws = Number 1 MOST_DRAWS None
@@ -148,6 +150,7 @@ is_same option.Sets option.Sets = true
 is_same option.FewestSets option.FewestSets = true
 is_same option.Fewest option.Fewest = true
 is_same option.Floor option.Floor = true
+is_same option.Gap option.Gap = true
 is_same option.Cards option.Cards = true
 is_same option.Seed option.Seed = true
 is_same option.Draws option.Draws = true

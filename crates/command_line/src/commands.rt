@@ -81,6 +81,7 @@ fn search_fewest(alloc: Global, matches: &ArgMatches<'_>) -> Result<Command, All
         workers: number(OptionName::Workers, matches),
         sets: number(OptionName::FewestSets, matches),
         floor: number(OptionName::Floor, matches),
+        gap: number(OptionName::Gap, matches),
         plan: plan_terms(matches),
     }))
 }

@@ -5,8 +5,8 @@ ghost use Rattle.command_line.specs.declared.table.ValueKind.TheVariants.{Number
 
 use budget::{DEFAULT_NODES, MOST_NODES, MOST_SETS};
 use command::{
-    DEFAULT_BALLOTS, DEFAULT_CANDIDATES, DEFAULT_FLOOR, DEFAULT_GAMMA, DEFAULT_LIMIT,
-    DEFAULT_WORKERS, MOST_FLOOR, MOST_TRIAL_NUMBER,
+    DEFAULT_BALLOTS, DEFAULT_CANDIDATES, DEFAULT_FLOOR, DEFAULT_GAMMA, DEFAULT_GAP, DEFAULT_LIMIT,
+    DEFAULT_WORKERS, MOST_FLOOR, MOST_GAP, MOST_TRIAL_NUMBER,
 };
 use irv_base::{
     FEWEST_CANDIDATES, GREATEST_GAMMA, GREATEST_LIMIT, MOST_CANDIDATES, MOST_CARDS, MOST_DRAWS,
@@ -70,6 +70,8 @@ pub enum OptionName {
     Fewest,
     /// The least margin of a search, in votes.
     Floor,
+    /// How far below the best margin a search for the fewest NENs may end, in thousandths of it.
+    Gap,
     /// How many cards the manifest will have, for an assertion file that carries its clean draws.
     Cards,
     /// The seed of the draws.
@@ -221,11 +223,12 @@ const SEARCH_OPTIONS: [OptionName; 8] = [
     OptionName::Gamma,
 ];
 
-const SEARCH_FEWEST_OPTIONS: [OptionName; 8] = [
+const SEARCH_FEWEST_OPTIONS: [OptionName; 9] = [
     OptionName::Contest,
     OptionName::Workers,
     OptionName::FewestSets,
     OptionName::Floor,
+    OptionName::Gap,
     OptionName::Cards,
     OptionName::Limit,
     OptionName::Gamma,
@@ -451,6 +454,7 @@ impl OptionName {
             OptionName::Sets | OptionName::FewestSets => "sets",
             OptionName::Fewest => "fewest",
             OptionName::Floor => "floor",
+            OptionName::Gap => "gap",
             OptionName::Cards => "cards",
             OptionName::Seed => "seed",
             OptionName::Draws => "draws",
@@ -475,6 +479,7 @@ impl OptionName {
             OptionName::FewestSets => number(1, MOST_SETS, Some(MOST_SETS)),
             OptionName::Fewest => ValueKind::Flag,
             OptionName::Floor => number(1, MOST_FLOOR, Some(DEFAULT_FLOOR)),
+            OptionName::Gap => number(0, MOST_GAP, Some(DEFAULT_GAP)),
             OptionName::Cards => free_number(1, MOST_CARDS),
             OptionName::Seed => ValueKind::Seed,
             OptionName::Draws => number(1, MOST_DRAWS, None),

@@ -1,32 +1,29 @@
 -- What a search for the fewest NENs finds, from what its parts answer.
-use Rattle.std.proofs.Common.{◌≡◌, ℕ, ◌<◌, ◌≤◌, true, ◌&&◌, nat_le, List, length, All, Some, None, refl, sym, ap, subst, arith, ◌∙◌}
+use Rattle.std.proofs.Common.{◌≡◌, ℕ, ◌<◌, ◌≤◌, true, ◌&&◌, nat_le, List, length, All, Some, refl, sym, subst, arith, ◌∙◌}
 use Rattle.std.proofs.lemmas.Bool.{and_parts}
 use Rattle.std.proofs.lemmas.List.Elements.{All-contains}
 use Rattle.irv_base.specs.Orders.{is_order}
-use Rattle.irv_base.proofs.Members.{Member, contains-from_member, member-map}
+use Rattle.irv_base.proofs.Members.{contains-from_member, member-map}
 use Rattle.assertions.specs.declared.assertion.Claim.{Claim}
 use Rattle.assertions.specs.Assertions.{is_proper, is_true, true_margin}
-use Rattle.assertions.specs.Hardness.{best_margin, low}
+use Rattle.assertions.specs.Hardness.{low}
 use Rattle.assertions.specs.Suffixes.{IsAlternative}
 use Rattle.assertions.proofs.Alternatives.{order_is}
 use Rattle.assertions.proofs.Decided.{positive-decided}
 use Rattle.assertions.proofs.Endings.{alternative_orders_are}
 use Rattle.ballot_reader.specs.Ballots.{BallotFile}
 use Rattle.assertion_file.specs.Content.{Content, IsMargin, IsSoundClaim}
-use Rattle.budget.specs.declared.budget.Budget.TheVariants.{Sets}
 use Rattle.set_tallies.specs.Bags.{Kept, IsOf}
 use Rattle.irv_tabulator.specs.declared.tabulated.Tabulated.{Tabulated}
 use Rattle.certifier.specs.declared.certificate.Certificate.{Certificate}
 use Rattle.cover_checker.proofs.Held.{all-from_members}
-use Rattle.fewest.specs.Nens.{is_enough}
 use Rattle.nen_cut.specs.Floors.{assertions_in}
-use Rattle.set_search.specs.Answers.{IsUndecided as AreUndecided}
 use Rattle.fewest_search.specs.Answers.{AreFewest, IsFewest, IsSpent as AreSpent}
+use Rattle.fewest_search.specs.Gap.{least_margin}
 use Rattle.fewest_search.specs.declared.ends.FewestAssertions.{FewestAssertions}
 use Rattle.fewest_search.proofs.Findings.{each-enough}
-use Rattle.contest_search.specs.Budget.{IsTold}
-use Rattle.contest_search.specs.Certificate.{certificate_of, low_of, margin_of, order_of}
-use Rattle.contest_search.specs.Contest.{candidate_count, IsUndecided}
+use Rattle.contest_search.specs.Certificate.{certificate_of, margin_of}
+use Rattle.contest_search.specs.Contest.{candidate_count}
 use Rattle.contest_search.specs.Fewest.{IsFewestFoundIn, IsSpentFewest}
 use Rattle.contest_search.specs.Found.{IsCounted, IsPrintable, content_of}
 use Rattle.contest_search.proofs.Contests.{winner-below}
@@ -48,10 +45,10 @@ fewest-sound n winner sets margin records claims are =
 abbrev pub as_certificate : FewestAssertions → Certificate
 as_certificate found = record { claims = found.claims; margin = found.margin; order = found.order }
 
-module _ (ballots : BallotFile) (bag : Kept) (t : Tabulated) (counted : IsCounted ballots bag t) (sets : ℕ) where
-  module _ (found : FewestAssertions) (h : (records : List (List ℕ)) → IsOf bag records → IsFewest bag.n records t.winner sets found) where
-    abbrev here : IsFewest (candidate_count ballots) ballots.rankings t.winner sets found
-    here = of_ballots ballots bag t counted (λ n records. IsFewest n records t.winner sets found) h
+module _ (ballots : BallotFile) (bag : Kept) (t : Tabulated) (counted : IsCounted ballots bag t) (sets gap : ℕ) where
+  module _ (found : FewestAssertions) (h : (records : List (List ℕ)) → IsOf bag records → IsFewest bag.n records t.winner sets gap found) where
+    abbrev here : IsFewest (candidate_count ballots) ballots.rankings t.winner sets gap found
+    here = of_ballots ballots bag t counted (λ n records. IsFewest n records t.winner sets gap found) h
 
     abbrev some : 1 ≤ margin_of ballots t.winner
     some = omega (arith, here.some, here.margin)
@@ -73,11 +70,11 @@ module _ (ballots : BallotFile) (bag : Kept) (t : Tabulated) (counted : IsCounte
           candidate = below;
           margin = subst (IsMargin (length records)) (sym here.margin) margin;
           order = subst (λ o. is_order n o ≡ true) same alternative.0;
-          claims = fewest-sound n t.winner sets (margin_of ballots t.winner) records found.claims.items here.claims;
+          claims = fewest-sound n t.winner sets (least_margin gap (margin_of ballots t.winner)) records found.claims.items here.claims;
         }
 
-    pub fewest-found : (file : Content) → file ≡ content_of ballots t.winner (as_certificate found) → IsFewestFoundIn sets ballots file
-    fewest-found file shown = subst (IsFewestFoundIn sets ballots) (sym shown) (record {
+    pub fewest-found : (file : Content) → file ≡ content_of ballots t.winner (as_certificate found) → IsFewestFoundIn sets gap ballots file
+    fewest-found file shown = subst (IsFewestFoundIn sets gap ballots) (sym shown) (record {
       winner = t.winner;
       won = won_by ballots t (tabulated_there ballots bag t counted);
       decided = positive-decided (candidate_count ballots) t.winner ballots.rankings below counted.two some;

@@ -32,14 +32,14 @@ none_beside cover order best beside none = subst (λ best. max order (if best ==
 
 module _ (ballots : BallotFile) (sets : ℕ) where
   -- all files have the best margin
-  pub margin-same : (file other : Content) → IsFewestFoundIn sets ballots file → IsFewestFoundIn sets ballots other → file.margin ≡ other.margin
-  margin-same file other a b =
+  pub margin-same : (gap : ℕ) (file other : Content) → IsFewestFoundIn sets gap ballots file → IsFewestFoundIn sets gap ballots other → file.margin ≡ other.margin
+  margin-same gap file other a b =
       ap (λ (f : Content). f.margin) a.is ∙ ap (margin_of ballots) (winner-one ballots a.winner b.winner a.won b.won)
       ∙ sym (ap (λ (f : Content). f.margin) b.is)
 
   module _ (order : List ℕ) (margin : ℕ) where
-    pub never_both_ends : (file : Content) → IsFewestFoundIn sets ballots file → IsSpentFewest sets ballots order margin → ⊥
-    never_both_ends file found is =
+    pub never_both_ends : (gap : ℕ) (file : Content) → IsFewestFoundIn sets gap ballots file → IsSpentFewest sets ballots order margin → ⊥
+    never_both_ends gap file found is =
         let within = found.within in
         let above = is.above in
         let same = ap (fewest_sets_of ballots) (winner-one ballots found.winner is.winner found.won is.won) in

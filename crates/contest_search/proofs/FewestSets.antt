@@ -1,6 +1,5 @@
 -- How many sets suffice for a search for the fewest NENs, and where they don't.
 use Rattle.std.proofs.Common.{◌≡◌, ℕ, zero, suc, ◌-◌, ◌^◌, ◌<◌, ◌≤◌, List, ap, arith}
-use Rattle.assertions.proofs.Decided.{decided-positive}
 use Rattle.ballot_reader.specs.Ballots.{BallotFile}
 use Rattle.fewest_search.specs.Sets.{fewest_sets}
 use Rattle.fewest_search.proofs.Needs.{sets_are_few as few_sets}
@@ -24,12 +23,12 @@ module _ (ballots : BallotFile) (w v : ℕ) (a : IsWon ballots w) (b : IsWon bal
   sets-same = ap (fewest_sets_of ballots) (winner-one ballots w v a b)
 
 pub spent_fewest_exactly : SpentFewestExactly
-spent_fewest_exactly sets ballots (Certificate file) winner won decided found = (
+spent_fewest_exactly sets gap ballots (Certificate file) winner won decided found = (
   λ none. absurd none,
   λ above. let same = sets-same ballots winner found.winner won found.won in omega (arith, above, found.within, same),
 )
-spent_fewest_exactly sets ballots (Tie round tied votes) winner won decided (is, told) = absurd (is.undecided (winner, decided))
-spent_fewest_exactly sets ballots (Spent last order margin) winner won decided found = absurd found
-spent_fewest_exactly sets ballots (SpentSets told order margin) winner won decided (its, is) =
+spent_fewest_exactly sets gap ballots (Tie round tied votes) winner won decided (is, told) = absurd (is.undecided (winner, decided))
+spent_fewest_exactly sets gap ballots (Spent last order margin) winner won decided found = absurd found
+spent_fewest_exactly sets gap ballots (SpentSets told order margin) winner won decided (its, is) =
     let same = sets-same ballots winner is.winner won is.won in
     (λ _. omega (arith, is.above, same), λ _. tt)

@@ -8,6 +8,7 @@ pub mod SetsNeeded
 pub mod Plans
 pub mod Accepted
 pub mod FewestFound
+pub mod OwnMargin
 pub mod FewestAccepted
 pub mod FewestSets
 pub mod FewestNeeded

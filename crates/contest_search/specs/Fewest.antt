@@ -1,10 +1,12 @@
 -- What a search for the fewest NENs of a contest finds.
-use Rattle.std.specs.Prelude.{◌≡◌, ◌≤◌, ◌<◌, ℕ, List, Some}
+use Rattle.std.specs.Prelude.{◌≡◌, ◌≤◌, ◌<◌, ◌==◌, ℕ, List, if◌then◌else◌, Some, None}
+use Rattle.irv_base.specs.Tabulation.{least}
 use Rattle.budget.specs.declared.budget.Budget.TheVariants.{Sets}
 use Rattle.assertions.specs.Hardness.{first_bound, start_order}
 use Rattle.ballot_reader.specs.Ballots.{BallotFile}
-use Rattle.assertion_file.specs.Content.{Content}
+use Rattle.assertion_file.specs.Content.{Content, margins_of}
 use Rattle.fewest_search.specs.Answers.{AreFewest}
+use Rattle.fewest_search.specs.Gap.{least_margin}
 use Rattle.fewest_search.specs.Sets.{fewest_sets}
 use Rattle.contest_search.specs.Budget.{IsTold}
 use Rattle.contest_search.specs.Certificate.{margin_of, order_of, certificate_of}
@@ -16,15 +18,17 @@ use Rattle.contest_search.specs.declared.found.Found.TheVariants.{Certificate as
 abbrev pub fewest_sets_of : BallotFile → ℕ → ℕ
 fewest_sets_of ballots winner = fewest_sets (candidate_count ballots) ballots.rankings winner
 
--- the contest is decided, and the file is its certificate but for the claims; these have the fewest NENs at the best margin
-pub record IsFewestFoundIn (sets : ℕ) (ballots : BallotFile) (file : Content) : Type 0 where
+-- the contest is decided, and the file is its certificate but for the claims; these have the fewest NENs at the least margin that the gap
+-- leaves
+pub record IsFewestFoundIn (sets gap : ℕ) (ballots : BallotFile) (file : Content) : Type 0 where
   pub winner : ℕ
   pub won : IsWon ballots winner
   pub decided : IsElected ballots winner
   pub order : List ℕ
   pub hardest : order_of ballots winner ≡ Some order
   pub is : file ≡ record (certificate_of ballots winner order) { claims = file.claims }
-  pub claims : AreFewest (candidate_count ballots) ballots.rankings winner sets (margin_of ballots winner) file.claims
+  pub claims : AreFewest (candidate_count ballots) ballots.rankings winner sets
+      (least_margin gap (margin_of ballots winner)) file.claims
   pub within : fewest_sets_of ballots winner ≤ sets
 
 -- more sets are needed than there are; with it comes the order that a search starts with, and its hardness, which isn't 0
@@ -36,11 +40,17 @@ pub record IsSpentFewest (sets : ℕ) (ballots : BallotFile) (order : List ℕ) 
   pub hardness : margin ≡ first_bound (candidate_count ballots) ballots.rankings won.order
   pub some : 1 ≤ margin
 
+-- the file as it is printed: its margin is the smallest of its claims, and it has the order only if that is the best margin
+abbrev pub with_own_margin : Content → Content
+with_own_margin file =
+    let own = least (margins_of file) in
+    record file { margin = own; order = if own == file.margin then file.order else None }
+
 -- a contest that isn't decided is told as by a search by sets
-abbrev pub FoundFewestIn : ℕ → BallotFile → Found → Type 0
-FoundFewestIn sets ballots (CertificateFound file) = IsFewestFoundIn sets ballots file
-FoundFewestIn sets ballots (Tie round tied votes) =
+abbrev pub FoundFewestIn : ℕ → ℕ → BallotFile → Found → Type 0
+FoundFewestIn sets gap ballots (CertificateFound file) = IsFewestFoundIn sets gap ballots file
+FoundFewestIn sets gap ballots (Tie round tied votes) =
     IsTie ballots round tied votes × IsTold (Sets sets) ballots
-FoundFewestIn sets ballots (Spent last order margin) = ⊥
-FoundFewestIn sets ballots (SpentSets told order margin) =
+FoundFewestIn sets gap ballots (Spent last order margin) = ⊥
+FoundFewestIn sets gap ballots (SpentSets told order margin) =
     (told ≡ sets) × IsSpentFewest sets ballots order margin

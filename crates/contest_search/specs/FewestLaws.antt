@@ -11,7 +11,7 @@ use Rattle.cover_checker.specs.Checks.{IsAnswer}
 use Rattle.cover_checker.specs.Holds.{Holds}
 use Rattle.cover_checker.specs.declared.checked.Checked.TheVariants.{Accepted}
 use Rattle.contest_search.specs.Contest.{candidate_count, IsElected, IsWon}
-use Rattle.contest_search.specs.Fewest.{FoundFewestIn, IsFewestFoundIn, fewest_sets_of}
+use Rattle.contest_search.specs.Fewest.{FoundFewestIn, IsFewestFoundIn, fewest_sets_of, with_own_margin}
 use Rattle.contest_search.specs.Found.{IsSpentFound}
 use Rattle.contest_search.specs.declared.found.Found.{Found}
 use Rattle.contest_search.specs.Planned.{planned, CanBePlanned}
@@ -25,26 +25,35 @@ FewestSetsAreFew =
 -- Of a contest that is decided, a search is spent exactly if more sets are needed than the budget has.
 abbrev pub SpentFewestExactly : Type 0
 SpentFewestExactly =
-    (sets : ℕ) (ballots : BallotFile) (found : Found) (winner : ℕ) → IsWon ballots winner →
-    IsElected ballots winner → FoundFewestIn sets ballots found →
+    (sets gap : ℕ) (ballots : BallotFile) (found : Found) (winner : ℕ) → IsWon ballots winner →
+    IsElected ballots winner → FoundFewestIn sets gap ballots found →
     (IsSpentFound found ↔ (sets < fewest_sets_of ballots winner))
 
--- What is found in ballots that were read holds of them, reads back from its text, and is accepted by the checker with the same budget.
+-- What is printed of ballots that were read holds of them, reads back from its text, and is accepted by the checker with the same budget.
 abbrev pub FewestIsAccepted : Type 0
 FewestIsAccepted =
-    (sets : ℕ) (bytes : List ℕ) (asked : Option Id) (ballots : BallotFile) (file : Content) →
-    ballots_of bytes asked ≡ Ok ballots → IsFewestFoundIn sets ballots file →
-    Holds ballots file
-    × (assertion_file_of (assertion_file_text file) ≡ Ok file)
-    × IsAnswer (Sets sets) ballots file (Ok Accepted)
+    (sets gap : ℕ) (bytes : List ℕ) (asked : Option Id) (ballots : BallotFile) (file : Content) →
+    ballots_of bytes asked ≡ Ok ballots → IsFewestFoundIn sets gap ballots file →
+    let own = with_own_margin file in
+    Holds ballots own
+    × (assertion_file_of (assertion_file_text own) ≡ Ok own)
+    × IsAnswer (Sets sets) ballots own (Ok Accepted)
 
 -- So is it with the draws of a clean audit.
 abbrev pub PlannedFewestIsAccepted : Type 0
 PlannedFewestIsAccepted =
-    (cards gamma limit sets : ℕ) (bytes : List ℕ) (asked : Option Id) (ballots : BallotFile)
+    (cards gamma limit sets gap : ℕ) (bytes : List ℕ) (asked : Option Id) (ballots : BallotFile)
     (file : Content) →
     CanBePlanned cards gamma limit file.records → ballots_of bytes asked ≡ Ok ballots →
-    IsFewestFoundIn sets ballots file → let planned = planned cards gamma limit file in
+    IsFewestFoundIn sets gap ballots file →
+    let planned = planned cards gamma limit (with_own_margin file) in
     Holds ballots planned
     × (assertion_file_of (assertion_file_text planned) ≡ Ok planned)
     × IsAnswer (Sets sets) ballots planned (Ok Accepted)
+
+-- Without a gap the file is printed as it is found: with the best margin and the order of the certificate.
+abbrev pub NoGapIsBest : Type 0
+NoGapIsBest =
+    (sets : ℕ) (bytes : List ℕ) (asked : Option Id) (ballots : BallotFile) (file : Content) →
+    ballots_of bytes asked ≡ Ok ballots → IsFewestFoundIn sets 0 ballots file →
+    with_own_margin file ≡ file

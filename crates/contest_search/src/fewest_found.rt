@@ -1,12 +1,14 @@
 // What a search for the fewest NENs finds.
-ghost use Rattle.std.specs.Prelude.{◌≤◌, IfOk};
+ghost use Rattle.std.specs.Prelude.{◌≡◌, ◌≤◌, None, IfOk, length};
 ghost use Rattle.irv_base.specs.declared.limits.TheConstants.{MOST_WORKERS};
 ghost use Rattle.contest_search.specs.Found.{IsCounted};
-ghost use Rattle.contest_search.specs.Fewest.{FoundFewestIn};
+ghost use Rattle.contest_search.specs.Fewest.{FoundFewestIn, with_own_margin};
 
 use crate::found::{Found, file_of, tie_of};
+use assertion_file::{AssertionFile, Parts};
 use ballot_reader::Votes;
 use certifier::Certificate;
+use cover_checker::smallest_margin;
 use fewest_search::{FewestAssertions, FewestEnd};
 use irv_base::Memory;
 use irv_tabulator::{TabFault, Tabulated, tabulate};
@@ -22,11 +24,12 @@ fn fewest_of(
     counted: &Counted,
     tabulated: &Tabulated,
     sets: u32,
+    gap: u32,
 ) -> Result<Found, Memory>
     requires counted { IsCounted votes.now counted.now.bag tabulated.now }
-    ensures { IfOk result (FoundFewestIn sets votes.now) }
+    ensures { IfOk result (FoundFewestIn sets gap votes.now) }
 {
-    match fewest_search::find_fewest(alloc, counted, tabulated, sets) {
+    match fewest_search::find_fewest(alloc, counted, tabulated, sets, gap) {
         Ok(end) => match end {
             FewestEnd::Found(found) => {
                 let FewestAssertions {
@@ -55,22 +58,47 @@ fn fewest_of(
     }
 }
 
-/// What a search for the fewest NENs of the contest at its best margin finds, within a budget of sets. Up to this many workers sum the
-/// ballots.
+/// What a search for the fewest NENs of the contest finds, within a budget of sets. The margins may be less than the best one by `gap`
+/// thousandths of it, rounded up. Up to this many workers sum the ballots.
+///
+/// The file has the best margin and the order of the certificate, whatever its claims. `with_own_margin` makes it what is printed.
 pub fn find_fewest<R: AllocGlobal + Threads + Sync>(
     rt: &R,
     votes: &Votes,
     workers: u32,
     sets: u32,
+    gap: u32,
 ) -> Result<Found, Memory>
     requires { (1 ≤ workers) × (workers ≤ MOST_WORKERS) }
-    ensures { IfOk result (FoundFewestIn sets votes.now) }
+    ensures { IfOk result (FoundFewestIn sets gap votes.now) }
 {
     let alloc = rt.alloc();
     let counted = votes.counted(rt, workers)?;
     let mut tallies = counted.tallies()?;
     match tabulate(alloc, &mut tallies) {
-        Ok(tabulated) => fewest_of(alloc, votes, &counted, &tabulated, sets),
+        Ok(tabulated) => fewest_of(alloc, votes, &counted, &tabulated, sets, gap),
         Err(TabFault::Memory) => Err(Memory),
     }
+}
+
+/// The file with the smallest margin of its claims. If that is another margin than the file's, it has no order.
+pub fn with_own_margin(alloc: Global, file: AssertionFile) -> Result<AssertionFile, Memory>
+    requires claims { 1 ≤ length file.claims }
+    requires unplanned { file.plan ≡ None }
+    ensures { IfOk result (λ own. own ≡ with_own_margin file) }
+{
+    let margin = smallest_margin(file.claims());
+    if margin == file.margin() {
+        return Ok(file);
+    }
+    Ok(AssertionFile::new(Parts {
+        contest: *file.contest(),
+        candidates: file.candidates().to_vec(alloc)?,
+        records: file.records(),
+        winner: file.winner(),
+        margin,
+        order: None,
+        claims: file.claims().to_vec(alloc)?,
+        plan: None,
+    }))
 }

@@ -175,7 +175,8 @@ pub(crate) fn tie_of(votes: &Votes, tabulated: &Tabulated) -> Found
         tabulated.now }
     requires undecided { IsUndecided votes.now }
     ensures found { (budget : Told) → IsTold budget votes.now → FoundIn budget votes.now result }
-    ensures fewest { (sets : ℕ) → IsTold (Told.Sets sets) votes.now → FoundFewestIn sets votes.now result }
+    ensures fewest { (sets gap : ℕ) → IsTold (Told.Sets sets) votes.now
+        → FoundFewestIn sets gap votes.now result }
 {
     match tabulated.tie() {
         Some(FirstTie { round, tied, tally }) => Found::Tie {

@@ -1,5 +1,5 @@
 //! The laws of a search: each holds of every value that it names, and has no code.
-ghost use Rattle.contest_search.specs.FewestLaws.{FewestIsAccepted, FewestSetsAreFew, PlannedFewestIsAccepted, SpentFewestExactly};
+ghost use Rattle.contest_search.specs.FewestLaws.{FewestIsAccepted, FewestSetsAreFew, NoGapIsBest, PlannedFewestIsAccepted, SpentFewestExactly};
 ghost use Rattle.contest_search.specs.Laws.{FoundIsAccepted, NodesAreFew, PlannedIsAccepted, SetsAreFew, SpentBySetsExactly};
 
 /// No search needs more nodes for a candidate than twice the factorial of the number of the other candidates.
@@ -38,7 +38,7 @@ pub fn spent_fewest_exactly()
     ensures { SpentFewestExactly }
 {}
 
-/// What it finds holds of the ballots, reads back from its text, and is accepted by the checker.
+/// What is printed of it holds of the ballots, reads back from its text, and is accepted by the checker.
 pub fn fewest_is_accepted()
     ensures { FewestIsAccepted }
 {}
@@ -46,4 +46,9 @@ pub fn fewest_is_accepted()
 /// So is it with the draws of a clean audit.
 pub fn planned_fewest_is_accepted()
     ensures { PlannedFewestIsAccepted }
+{}
+
+/// Without a gap that is what is found: it has the best margin, and the order of the certificate.
+pub fn no_gap_is_best()
+    ensures { NoGapIsBest }
 {}

@@ -7,5 +7,5 @@ mod found;
 pub mod laws;
 
 pub use draws::planned;
-pub use fewest_found::find_fewest;
+pub use fewest_found::{find_fewest, with_own_margin};
 pub use found::{Found, find};

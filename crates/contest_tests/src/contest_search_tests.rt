@@ -126,7 +126,7 @@ Contest,1,4,1,2,3,4
 fn one_neb_and_one_nen_are_the_fewest(rt: HostRuntime) {
     let ballots = read_ballots(rt.alloc(), THREE_CANDIDATES, None).expect(&rt, "ballots");
     let votes = ballots.votes(rt.alloc()).expect(&rt, "votes");
-    match find_fewest(&rt, &votes, 1, 3) {
+    match find_fewest(&rt, &votes, 1, 3, 0) {
         Ok(Found::Certificate(file)) => {
             assert!(rt; file.winner() == ONE);
             assert!(rt; file.margin() == 1);
@@ -143,7 +143,7 @@ fn one_neb_and_one_nen_are_the_fewest(rt: HostRuntime) {
 fn four_of_seven_are_the_fewest(rt: HostRuntime) {
     let ballots = read_ballots(rt.alloc(), FOUR_CANDIDATES, None).expect(&rt, "ballots");
     let votes = ballots.votes(rt.alloc()).expect(&rt, "votes");
-    match find_fewest(&rt, &votes, 1, 8) {
+    match find_fewest(&rt, &votes, 1, 8, 0) {
         Ok(Found::Certificate(file)) => {
             assert!(rt; file.winner() == TWO);
             assert!(rt; file.margin() == 1);
@@ -153,11 +153,57 @@ fn four_of_seven_are_the_fewest(rt: HostRuntime) {
     }
 }
 
+// Thirteen ballots of three candidates, with a best margin of 5. The NEBs have margins of 4 and 3.
+const BY_GAP: &[u8] = b"1
+Contest,1,3,1,2,3
+1,a_1,1
+1,a_2,1,2
+1,a_3,1,2
+1,a_4,1,3
+1,a_5,2
+1,a_6,2
+1,a_7,2
+1,a_8,2
+1,a_9,2
+1,a_10,2
+1,a_11,2,3
+1,a_12,3,2
+1,a_13,3,2
+";
+
+#[test]
+fn a_gap_of_a_fifth_leaves_one_neb_and_one_nen(rt: HostRuntime) {
+    let ballots = read_ballots(rt.alloc(), BY_GAP, None).expect(&rt, "ballots");
+    let votes = ballots.votes(rt.alloc()).expect(&rt, "votes");
+    match find_fewest(&rt, &votes, 1, 5, 200) {
+        Ok(Found::Certificate(file)) => {
+            assert!(rt; file.margin() == 5);
+            assert!(rt; file.claims().len() == 2);
+            assert!(rt; file.claims()[0].margin == 4);
+            assert!(rt; file.claims()[1].margin == 5);
+        }
+        _ => assert!(rt; false),
+    }
+}
+
+#[test]
+fn a_smaller_gap_is_rounded_up_to_the_best_margin(rt: HostRuntime) {
+    let ballots = read_ballots(rt.alloc(), BY_GAP, None).expect(&rt, "ballots");
+    let votes = ballots.votes(rt.alloc()).expect(&rt, "votes");
+    match find_fewest(&rt, &votes, 1, 5, 199) {
+        Ok(Found::Certificate(file)) => {
+            assert!(rt; file.margin() == 5);
+            assert!(rt; file.claims().len() == 3);
+        }
+        _ => assert!(rt; false),
+    }
+}
+
 #[test]
 fn seven_sets_are_too_few_for_the_fewest(rt: HostRuntime) {
     let ballots = read_ballots(rt.alloc(), FOUR_CANDIDATES, None).expect(&rt, "ballots");
     let votes = ballots.votes(rt.alloc()).expect(&rt, "votes");
-    let found = find_fewest(&rt, &votes, 1, 7);
+    let found = find_fewest(&rt, &votes, 1, 7, 0);
     assert!(rt; matches!(&found, Ok(Found::SpentSets { sets: 7, .. })));
 }
 
@@ -166,6 +212,6 @@ fn one_against_one_has_no_fewest(rt: HostRuntime) {
     let file = b"1\nContest,7,2,A,B\n7,b_1,A\n7,b_2,B\n".as_slice();
     let ballots = read_ballots(rt.alloc(), file, None).expect(&rt, "ballots");
     let votes = ballots.votes(rt.alloc()).expect(&rt, "votes");
-    let found = find_fewest(&rt, &votes, 1, 5);
+    let found = find_fewest(&rt, &votes, 1, 5, 0);
     assert!(rt; matches!(&found, Ok(Found::Tie { .. })));
 }

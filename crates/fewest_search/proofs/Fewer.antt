@@ -1,9 +1,9 @@
 -- A list whose assertions are all in another has no more NENs.
-use Rattle.std.proofs.Common.{◌≡◌, ℕ, suc, ◌≤◌, Bool, true, false, cond, not, ◌&&◌, inl, inr, List, [], ◌∷◌, length, refl, sym, ap, arith, subst, ◌∙◌}
+use Rattle.std.proofs.Common.{◌≡◌, suc, ◌≤◌, true, false, cond, not, inl, inr, List, [], ◌∷◌, length, refl, sym, ap, arith, subst, ◌∙◌}
 use Rattle.std.specs.List.{list_any}
-use Rattle.std.proofs.lemmas.Bool.{and_parts, and_from, and_left, and_right, both_ways, cases_Bool, not-true, not_from_true, not_from_false}
+use Rattle.std.proofs.lemmas.Bool.{and_parts, and_from, both_ways, cases_Bool, not-true, not_from_false}
 use Rattle.irv_base.proofs.Distinct.{Distinct, none, more, distinct-le}
-use Rattle.irv_base.proofs.Members.{Member, here, there, from_list_any, list_any-member, member_at, member_cases, member_nil}
+use Rattle.irv_base.proofs.Members.{Member, there, from_list_any, list_any-member, member_at, member_cases, member_nil}
 use Rattle.assertions.specs.declared.assertion.Assertion.{Assertion}
 use Rattle.assertions.specs.Certificate.{is_same}
 use Rattle.fewest.specs.Nens.{is_nen, is_new_nen, nen_count}

@@ -1,39 +1,38 @@
 -- What the parts of a search for the fewest NENs come to.
-use Rattle.std.proofs.Common.{◌≡◌, ℕ, suc, ◌<◌, ◌≤◌, ◌^◌, Bool, true, false, not, ◌&&◌, ◌==◌, if◌then◌else◌, nat_lt, nat_le, inl, inr, ◌⊎◌, List, [], ◌∷◌, ◌++◌, map, length, All, Contains, None, Ok, refl, sym, ap, ap₂, subst, arith, eq-eqb, eqb-true, le-leb, ltb-true, ◌∙◌}
-use Rattle.std.specs.List.{list_any, list_all, range_with_len}
-use Rattle.std.proofs.lemmas.Bool.{and_parts, and_from, both_ways, cases_Bool, cases_lt, false_from_ne_true, not-true, not_from_false, not_from_true}
+use Rattle.std.proofs.Common.{◌≡◌, ℕ, ◌≤◌, ◌^◌, Bool, true, false, not, ◌&&◌, ◌==◌, if◌then◌else◌, nat_lt, nat_le, inl, inr, List, [], ◌∷◌, ◌++◌, map, length, All, None, Ok, refl, sym, ap, subst, arith, eq-eqb, eqb-true, ltb-true, ◌∙◌}
+use Rattle.std.specs.List.{list_any, range_with_len}
+use Rattle.std.proofs.lemmas.Bool.{and_parts, and_from, both_ways, cases_Bool, cases_lt, false_from_ne_true, not-true, not_from_false}
 use Rattle.std.proofs.lemmas.List.{map-append}
 use Rattle.std.proofs.lemmas.List.Elements.{All-contains}
 use Rattle.irv_base.specs.Candidates.{candidates, has, set_of}
 use Rattle.irv_base.proofs.Distinct.{distinct-le, distinct-range}
 use Rattle.irv_base.proofs.Sames.{distinct-filter}
-use Rattle.irv_base.proofs.Members.{Member, candidate-member, contains-from_member, from_list_all, from_list_any, from_map, list_all-each, list_any-member, member-append_cases, member-append_left, member-append_right, member-filter, member-flat_map, member-from_contains, member-map, member_cases, member_at}
+use Rattle.irv_base.proofs.Members.{Member, candidate-member, contains-from_member, from_list_all, from_list_any, from_map, list_all-each, list_any-member, member-append_cases, member-append_left, member-filter, member-flat_map, member-from_contains, member-map, member_cases}
 use Rattle.assertions.specs.declared.assertion.Assertion.{Assertion}
-use Rattle.assertions.specs.declared.assertion.Assertion.TheVariants.{Neb, Nen}
+use Rattle.assertions.specs.declared.assertion.Assertion.TheVariants.{Neb}
 use Rattle.assertions.specs.declared.assertion.Claim.{Claim}
 use Rattle.assertions.specs.Assertions.{assertions, is_proper, is_true, true_margin}
-use Rattle.assertions.specs.Certificate.{certificate_assertions, claim_of}
+use Rattle.assertions.specs.Certificate.{claim_of}
 use Rattle.assertions.specs.Refutation.{covers}
 use Rattle.assertions.specs.Steps.{anew, is_anew, more, step}
-use Rattle.assertions.proofs.Certificates.{certificate_covers, certificate_is_proper, certificate_is_true, certificate-le}
 use Rattle.assertions.proofs.Greatest.{greatest-member}
 use Rattle.assertions.proofs.Listed.{assertion-member}
 use Rattle.assertions.proofs.Proper.{pair_facts}
-use Rattle.fewest.specs.Apart.{IsComplete, HasFewest}
+use Rattle.fewest.specs.Apart.{HasFewest}
 use Rattle.fewest.specs.Flows.{is_barred}
-use Rattle.fewest.specs.Nens.{is_nen, is_enough, nen_count}
+use Rattle.fewest.specs.Nens.{is_nen, is_enough}
 use Rattle.nen_cut.specs.Cut.{IsStrongestNen}
-use Rattle.nen_cut.specs.Floors.{assertions_in, nebs, nebs_by, sets_beside, IsUncovered}
+use Rattle.nen_cut.specs.Floors.{assertions_in, nebs, nebs_by, sets_beside}
 use Rattle.nen_cut.proofs.Enough.{enough-facts}
 use Rattle.cover_checker.proofs.Held.{all-from_members}
 use Rattle.set_walk.specs.Answers.{first_within}
-use Rattle.set_walk.specs.Walks.{counted, is_standing, passes, standing, walks}
+use Rattle.set_walk.specs.Walks.{is_standing, passes, standing, walks}
 use Rattle.set_walk.proofs.Standing.{from_standing}
 use Rattle.set_walk.proofs.Counted.{counted_stand}
 use Rattle.set_walk.proofs.Enough.{enough}
 use Rattle.set_walk.proofs.Orders.{covers_by_sets}
 use Rattle.set_search.specs.Answers.{IsFault as IsMarginFault}
-use Rattle.set_search.specs.Sets.{best_of, cover_sets, order_sets, sets_for}
+use Rattle.set_search.specs.Sets.{best_of, cover_sets, sets_for}
 use Rattle.set_search.specs.declared.ends.SetsFault.{SetsFault}
 use Rattle.set_search.specs.declared.ends.SetsFault.TheVariants.{Spent, Memory}
 use Rattle.irv_tabulator.specs.declared.tabulated.Tabulated.{Tabulated}
@@ -152,20 +151,6 @@ fault-more n records tab sets (Spent order margin) is =
     let above = is.above in
     record { above = omega (arith, le, above); start = is.start; hardness = is.hardness; some = is.some }
 fault-more n records tab sets Memory is = tt
-
--- ---- the certificate is complete at the best margin
-pub never-uncovered : (n winner : ℕ) (records : List (List ℕ)) → 0 < best_of n records winner → IsUncovered n winner records (best_of n records winner) → ⊥
-never-uncovered n winner records some none =
-    let best = best_of n records winner in
-    let list = certificate_assertions n records winner in
-    none list (record {
-      enough = list_all-each (is_enough n records best) list (λ a m.
-          and_from (is_proper n a) (is_true records a && nat_le best (true_margin records a))
-          (from_list_all (is_proper n) m (certificate_is_proper n winner records))
-          (and_from (is_true records a) (nat_le best (true_margin records a)) (from_list_all (is_true records) m (certificate_is_true n winner records))
-          (le-leb best (true_margin records a) (certificate-le n winner records a m))));
-      covering = certificate_covers n winner records some;
-    })
 
 -- ---- lists with the fewest NENs
 module _ (n winner : ℕ) (records : List (List ℕ)) (floor : ℕ) (list : List Assertion) (has-fewest : HasFewest n winner records floor list) where

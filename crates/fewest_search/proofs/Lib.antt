@@ -1,7 +1,9 @@
+pub mod Gaps
 pub mod Fewer
 pub mod Needing
 pub mod InOrder
 pub mod Trials
+pub mod Smaller
 pub mod Joining
 pub mod Findings
 pub mod Needs

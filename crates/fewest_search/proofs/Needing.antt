@@ -1,7 +1,7 @@
 -- Fewer assertions are as much too few, and what is open.
-use Rattle.std.proofs.Common.{◌≡◌, ℕ, ◌^◌, ◌<◌, ◌≤◌, ◌-◌, Bool, true, false, not, ◌&&◌, if◌then◌else◌, inl, inr, ◌⊎◌, List, [], ◌∷◌, length, filter, find, Option, Some, None, Ok, Err, refl, sym, ap, subst, arith, ◌∙◌}
-use Rattle.std.specs.List.{list_any, list_all, range_with_len}
-use Rattle.std.proofs.lemmas.Bool.{and_from, and_parts, both_ways, cases_Bool, false_from_ne_true, not-true, not_from_false, not_from_true}
+use Rattle.std.proofs.Common.{◌≡◌, ℕ, ◌^◌, ◌<◌, ◌≤◌, ◌-◌, Bool, true, false, not, inl, inr, List, [], ◌∷◌, length, Option, Some, None, Ok, Err, refl, sym, ap, arith, ◌∙◌}
+use Rattle.std.specs.List.{list_any, range_with_len}
+use Rattle.std.proofs.lemmas.Bool.{and_from, and_parts, both_ways, cases_Bool, false_from_ne_true, not-true, not_from_false}
 use Rattle.irv_base.specs.Candidates.{set_of}
 use Rattle.irv_base.proofs.Distinct.{distinct-le, distinct-range}
 use Rattle.irv_base.proofs.Members.{Member, from_filter, from_find, from_list_any, list_any-member, member-filter}
@@ -15,7 +15,7 @@ use Rattle.assertions.proofs.Elections.{from_covers}
 use Rattle.assertions.proofs.Endings.{alternative-member, from_alternative}
 use Rattle.cover_checker.specs.Covers.{stands, standing_order}
 use Rattle.set_walk.specs.Answers.{first_within}
-use Rattle.set_walk.specs.Walks.{counted, first_by_sets, is_standing, passes, standing, walks}
+use Rattle.set_walk.specs.Walks.{is_standing, passes, standing, walks}
 use Rattle.set_walk.specs.declared.walk.WalkFault.TheVariants.{Spent}
 use Rattle.set_walk.proofs.Counted.{counted_stand}
 use Rattle.set_walk.proofs.Enough.{enough}

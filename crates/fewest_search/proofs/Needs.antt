@@ -1,23 +1,22 @@
 -- The laws of the fewest NENs.
-use Rattle.std.proofs.Common.{◌≡◌, ◌==◌, ℕ, Bool, true, false, not, if◌then◌else◌, ◌-◌, ◌^◌, ◌<◌, ◌≤◌, inl, inr, List, [], ◌∷◌, ◌++◌, map, length, All, Contains, refl, sym, ap, subst, arith, ◌∙◌}
+use Rattle.std.proofs.Common.{◌≡◌, ◌==◌, ℕ, Bool, true, false, not, if◌then◌else◌, ◌-◌, ◌^◌, ◌<◌, ◌≤◌, inl, inr, List, [], ◌∷◌, ◌++◌, All, Contains, refl, sym, ap, subst, arith, ◌∙◌}
 use Rattle.std.proofs.lemmas.List.Elements.{All-contains}
-use Rattle.std.specs.List.{list_all}
 use Rattle.irv_base.proofs.Members.{Member, contains-from_member, from_map, here, list_all-each, member-append_cases, member-append_left, member-append_right, member-from_contains, member-map, member_cases, there}
 use Rattle.assertions.specs.declared.assertion.Assertion.{Assertion}
 use Rattle.assertions.specs.declared.assertion.Claim.{Claim}
 use Rattle.assertions.specs.Assertions.{is_proper, true_margin}
 use Rattle.assertions.proofs.Certificates.{none_beats_best}
 use Rattle.assertions.proofs.FixedOrders.{Before, before-not_both}
-use Rattle.assertions.proofs.Sorted.{Sorted, none, more, sorted-from_pairs}
+use Rattle.assertions.proofs.Sorted.{Sorted, more, sorted-from_pairs}
 use Rattle.fewest.specs.Flows.{is_barred}
 use Rattle.nen_cut.specs.Floors.{assertions_in, sets_beside}
-use Rattle.nen_cut.proofs.Enough.{enough-facts}
+use Rattle.nen_cut.proofs.Enough.{IsEnough, enough-facts}
 use Rattle.cover_checker.proofs.Held.{all-from_members}
-use Rattle.set_walk.proofs.Counted.{counted_stand}
 use Rattle.set_walk.proofs.Few.{standing_are_fewer}
 use Rattle.set_search.specs.Sets.{best_of}
 use Rattle.set_search.proofs.Deciding.{sets_are_few as few_sets}
 use Rattle.fewest_search.specs.Answers.{AreFewest}
+use Rattle.fewest_search.specs.Gap.{least_margin}
 use Rattle.fewest_search.specs.Laws.{AllAreNeeded, BestIsReached, NensAreNeeded, NeverBoth, SetsAreFew}
 use Rattle.fewest_search.specs.Needed.{IsNeededWithin, others}
 use Rattle.fewest_search.proofs.Findings.{each-enough, nen-needed}
@@ -35,7 +34,7 @@ sets_are_few n winner records below two =
     omega (arith, order, few)
 
 pub never_both : NeverBoth
-never_both n sets margin records tab order found is spent =
+never_both n sets gap margin records tab order found is spent =
     let within = is.within in
     let above = spent.above in
     omega (arith, within, above)
@@ -103,29 +102,50 @@ nens_are_needed n winner sets margin records claims before claim later are is ne
     (member-map assertion-of (claim-there claims before claim later is are.rising)) nen)
 
 -- ---- the best margin is reached
+module _ (n winner sets least : ℕ) (records : List (List ℕ)) (claims : List Claim) (below : winner < n) (two : 1 < n)
+    (are : AreFewest n records winner sets least claims) where
+  abbrev list : List Assertion
+  list = assertions_in claims
+
+  measured : (claim : Claim) → Member claim claims → claim.margin ≡ true_margin records claim.assertion
+  measured claim m = All-contains (λ (claim : Claim). claim.margin ≡ true_margin records claim.assertion) claims claim are.measured (contains-from_member m)
+
+  enough-of : (a : Assertion) → Member a list → IsEnough n records least a
+  enough-of a m = enough-facts n records least a (each-enough n winner records least list are.fewest a m)
+
+  pub least-kept : All (λ (claim : Claim). least ≤ claim.margin) claims
+  least-kept =
+      all-from_members (λ (claim : Claim). least ≤ claim.margin) claims (λ claim m.
+      let at = measured claim m in
+      let reaches = (enough-of claim.assertion (member-map assertion-of m)).reaches in
+      omega (arith, at, reaches))
+
+  pub none-above_best : (claim : Claim) × Contains claims claim × (claim.margin ≤ best_of n records winner)
+  none-above_best =
+      let (a, k, le) = none_beats_best n winner records list below two (list_all-each (is_proper n) list (λ a m. (enough-of a m).proper))
+      are.fewest.complete.covering in
+      let (claim, m, e) = from_map assertion-of a claims (member-from_contains a list k) in
+      let at = measured claim m in
+      let same : true_margin records claim.assertion ≡ true_margin records a = ap (true_margin records) e in
+      (claim, contains-from_member m, omega (arith, at, le, same))
+
+-- the smallest is the best one, if none may be below it
 pub some-at_best : (n winner sets : ℕ) (records : List (List ℕ)) (claims : List Claim) → winner < n → 1 < n →
     AreFewest n records winner sets (best_of n records winner) claims →
     All (λ (claim : Claim). best_of n records winner ≤ claim.margin) claims
     × ((claim : Claim) × Contains claims claim × (claim.margin ≡ best_of n records winner))
 some-at_best n winner sets records claims below two are =
-    let list = assertions_in claims in
     let best = best_of n records winner in
-    let margin-of = λ (claim : Claim) (m : Member claim claims).
-    All-contains (λ (claim : Claim). claim.margin ≡ true_margin records claim.assertion) claims claim are.measured (contains-from_member m) in
-    let enough = λ (a : Assertion) (m : Member a list). enough-facts n records best a (each-enough n winner records best list are.fewest a m) in
-    let reaches = λ (claim : Claim) (m : Member claim claims). (enough claim.assertion (member-map assertion-of m)).reaches in
-    let (a, k, le) = none_beats_best n winner records list below two (list_all-each (is_proper n) list (λ a m. (enough a m).proper)) are.fewest.complete.covering in
-    let (claim, m, e) = from_map assertion-of a claims (member-from_contains a list k) in
-    let at : claim.margin ≡ true_margin records claim.assertion = margin-of claim m in
-    let same : true_margin records claim.assertion ≡ true_margin records a = ap (true_margin records) e in
-    let ge = reaches claim m in (
-      all-from_members (λ (claim : Claim). best ≤ claim.margin) claims (λ claim m.
-          let at = margin-of claim m in let ge = reaches claim m in omega (arith, at, ge)),
-      (claim, contains-from_member m, omega (arith, at, le, ge, same)),
-    )
+    let all = least-kept n winner sets best records claims below two are in
+    let (claim, k, le) = none-above_best n winner sets best records claims below two are in
+    let ge = All-contains (λ (claim : Claim). best ≤ claim.margin) claims claim all k in
+    (all, (claim, k, omega (arith, le, ge)))
 
 pub best_is_reached : BestIsReached
-best_is_reached n winner sets records found below two is =
-    let at = some-at_best n winner sets records found.claims.items below two is.claims in
-    subst (λ margin. All (λ (claim : Claim). margin ≤ claim.margin) found.claims.items
-    × ((claim : Claim) × Contains found.claims.items claim × (claim.margin ≡ margin))) (sym is.margin) at
+best_is_reached n winner sets gap records found below two is =
+    let best = best_of n records winner in
+    let least = least_margin gap best in
+    let claims = found.claims.items in
+    subst (λ margin. All (λ (claim : Claim). least_margin gap margin ≤ claim.margin) claims
+    × ((claim : Claim) × Contains claims claim × (claim.margin ≤ margin))) (sym is.margin)
+    (least-kept n winner sets least records claims below two is.claims, none-above_best n winner sets least records claims below two is.claims)

@@ -1,7 +1,7 @@
 -- What is left while the NEBs are tried, from the last to the first.
-use Rattle.std.proofs.Common.{◌≡◌, ℕ, zero, suc, ◌+◌, ◌-◌, ◌<◌, ◌≤◌, inl, inr, List, [], ◌∷◌, ◌++◌, map, length, take, get_or, None, Ok, Contains, refl, sym, ap, subst, arith, ◌∙◌}
+use Rattle.std.proofs.Common.{◌≡◌, ℕ, zero, suc, ◌+◌, ◌-◌, ◌<◌, inl, inr, List, [], ◌∷◌, ◌++◌, map, length, take, get_or, None, Ok, sym, ap, subst, arith, ◌∙◌}
 use Rattle.std.proofs.lemmas.List.{take_all}
-use Rattle.irv_base.proofs.Members.{Member, contains-from_member, from_map, here, member-append_cases, member-append_left, member-append_right, member-from_contains, member-map, member_at, member_cases, member_nil, there}
+use Rattle.irv_base.proofs.Members.{Member, contains-from_member, from_map, here, member-append_cases, member-append_left, member-append_right, member-from_contains, member-map, member_cases, member_nil, there}
 use Rattle.assertions.specs.declared.assertion.Assertion.{Assertion}
 use Rattle.assertions.specs.declared.assertion.Claim.{Claim}
 use Rattle.set_walk.specs.Answers.{first_within}

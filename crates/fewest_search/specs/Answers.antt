@@ -1,5 +1,5 @@
 -- What a search for the fewest NENs answers.
-use Rattle.std.specs.Prelude.{◌≡◌, ℕ, ◌<◌, ◌≤◌, List, length, None, Some, Ok, Contains, All, ⊤}
+use Rattle.std.specs.Prelude.{◌≡◌, ℕ, ◌<◌, ◌≤◌, List, None, Some, Ok, All, ⊤}
 use Rattle.assertions.specs.Assertions.{true_margin}
 use Rattle.assertions.specs.Certificate.{certificate_order}
 use Rattle.assertions.specs.Hardness.{low, start_order, first_bound}
@@ -13,6 +13,7 @@ use Rattle.set_search.specs.Answers.{IsUndecided}
 use Rattle.set_search.specs.Sets.{best_of}
 use Rattle.set_search.specs.declared.ends.SetsFault.{SetsFault}
 use Rattle.set_search.specs.declared.ends.SetsFault.TheVariants.{Spent, Memory}
+use Rattle.fewest_search.specs.Gap.{least_margin}
 use Rattle.fewest_search.specs.InOrder.{IsRising}
 use Rattle.fewest_search.specs.Needed.{IsNeededWithin}
 use Rattle.fewest_search.specs.Sets.{fewest_sets}
@@ -30,14 +31,16 @@ pub record AreFewest (n : ℕ) (records : List (List ℕ)) (winner sets margin :
   pub needed : All (λ claim. IsNeededWithin n winner sets (assertions_in claims) claim.assertion) claims
   pub covered : first_within n winner sets (passes (assertions_in claims)) ≡ Ok None
 
--- the best margin, above 0, the certificate's order, and claims with the fewest NENs; the budget has the sets that are needed
-pub record IsFewest (n : ℕ) (records : List (List ℕ)) (winner sets : ℕ)
+-- the best margin, above 0, the certificate's order, and claims with the fewest NENs at the least margin that the gap leaves; the budget
+-- has the sets that are needed
+pub record IsFewest (n : ℕ) (records : List (List ℕ)) (winner sets gap : ℕ)
     (found : FewestAssertions) : Type 0 where
   pub margin : found.margin ≡ best_of n records winner
   pub some : 1 ≤ found.margin
   pub order :
       certificate_order n winner (low n records) (best_of n records winner) ≡ Some found.order
-  pub claims : AreFewest n records winner sets (best_of n records winner) found.claims.items
+  pub claims : AreFewest n records winner sets (least_margin gap (best_of n records winner))
+      found.claims.items
   pub within : fewest_sets n records winner ≤ sets
 
 -- more sets are needed than the budget has; with it comes the start order with its hardness, which is above 0
@@ -48,9 +51,9 @@ pub record IsSpent (n : ℕ) (records : List (List ℕ)) (tab : Tabulated) (sets
   pub hardness : margin ≡ first_bound n records tab.order
   pub some : 1 ≤ margin
 
-abbrev pub IsEnd : ℕ → List (List ℕ) → Tabulated → ℕ → FewestEnd → Type 0
-IsEnd n records tab sets (Found found) = IsFewest n records tab.winner sets found
-IsEnd n records tab sets Undecided = IsUndecided n records tab sets
+abbrev pub IsEnd : ℕ → List (List ℕ) → Tabulated → ℕ → ℕ → FewestEnd → Type 0
+IsEnd n records tab sets gap (Found found) = IsFewest n records tab.winner sets gap found
+IsEnd n records tab sets gap Undecided = IsUndecided n records tab sets
 
 -- want of memory says nothing
 abbrev pub IsFault : ℕ → List (List ℕ) → Tabulated → ℕ → SetsFault → Type 0

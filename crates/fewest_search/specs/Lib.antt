@@ -1,3 +1,5 @@
+pub mod Gap
+pub mod Nens
 pub mod Sets
 pub mod Needed
 pub mod InOrder

@@ -7,17 +7,19 @@ ghost use Rattle.assertions.specs.Assertions.{is_proper};
 ghost use Rattle.set_walk.specs.Answers.{first_within};
 ghost use Rattle.set_walk.specs.Walks.{passes};
 ghost use Rattle.set_search.specs.Answers.{IsFault as IsMarginFault};
-ghost use Rattle.nen_cut.specs.Floors.{assertions_in};
+ghost use Rattle.nen_cut.specs.Floors.{assertions_in, sets_beside, IsUncovered};
 ghost use Rattle.fewest_search.specs.Answers.{IsEnd, IsFault};
+ghost use Rattle.fewest_search.specs.Nens.{AreFewestNens};
 ghost use Rattle.fewest_search.specs.Spared.{AreSpared};
 
 use crate::ends::{FewestAssertions, FewestEnd};
+use crate::gap::least_margin;
 use crate::in_order::in_fixed_order;
 use crate::sparing::{in_turn, nebs_left};
 use assertions::Claim;
 use irv_base::{Candidate, Memory};
 use irv_tabulator::Tabulated;
-use nen_cut::{FewestNens, NensFault, fewest_nens};
+use nen_cut::{FewestNens, NensFault, fewest_nens, stand_within};
 use set_search::{BestEnd, BestFound, SetsFault, best_by_sets};
 use set_tallies::Counted;
 use std::alloc::Global;
@@ -44,26 +46,56 @@ fn claims_of(
     in_fixed_order(alloc, left.as_slice())
 }
 
+// The fewest NENs of at least the margin `least`, if no more than `sets` sets stand beside the NEBs of at least the best margin.
+fn nens_of(
+    alloc: Global,
+    counted: &Counted,
+    winner: Candidate,
+    best: u32,
+    least: u32,
+    sets: u32,
+) -> Result<FewestNens, NensFault>
+    requires winner { winner < counted.now.bag.n }
+    requires least { least ≤ best }
+    ensures nens { (records : List (List ℕ)) → IsOf counted.now.bag records
+        → IfOk result (AreFewestNens counted.now.bag.n winner records least) }
+    ensures within { (records : List (List ℕ)) → IsOf counted.now.bag records
+        → IfOk result (λ _. sets_beside counted.now.bag.n records winner best ≤ sets) }
+    ensures spent { (records : List (List ℕ)) → IsOf counted.now.bag records
+        → IfErr result (λ fault. fault ≡ NensFault.Spent
+        → sets < sets_beside counted.now.bag.n records winner best) }
+    ensures uncovered { (records : List (List ℕ)) → IsOf counted.now.bag records
+        → IfErr result (λ fault. fault ≡ NensFault.Uncovered
+        → IsUncovered counted.now.bag.n winner records least) }
+{
+    if least < best && !stand_within(alloc, counted, winner, best, sets)? {
+        return Err(NensFault::Spent);
+    }
+    fewest_nens(alloc, counted, winner, least, sets)
+}
+
 /// The true assertions of the contest with these records, of which `tab` is the tabulation, that confirm its winner with the fewest NENs
-/// that any do whose margins aren't below the best one. With them come the best margin and the order of the canonical certificate.
+/// that any do whose margins aren't below the least one. That is the best margin less `gap` thousandths of it, rounded up, and at least
+/// one vote. With them come the best margin and the order of the canonical certificate.
 ///
 /// The NEBs are first all of at least that margin. Of these each is dropped that can go, the smallest margin first, as far as a trial
 /// within `sets` shows it. So each assertion that is left is needed. No NEN can be spared by any choice of the others.
 ///
 /// Two counts of sets are taken: those that the certificate's order needs, as `certify_by_sets` counts them, and those that stand beside
-/// all true NEBs of at least the best margin. If one of them is above `sets`, the answer is `Spent`. But if the start order has hardness
-/// 0, the contest isn't decided, and the answer says so whatever the budget. The other error is want of memory.
+/// all true NEBs of at least the best margin, whatever the gap. If one of them is above `sets`, the answer is `Spent`. But if the start
+/// order has hardness 0, the contest isn't decided, and the answer says so whatever the budget. The other error is want of memory.
 pub fn find_fewest(
     alloc: Global,
     counted: &Counted,
     tab: &Tabulated,
     sets: u32,
+    gap: u32,
 ) -> Result<FewestEnd, SetsFault>
     requires order { IsTrue (is_order counted.now.bag.n tab.now.order) }
     requires winner { Elects tab.now.order tab.now.winner }
     requires records { (records : List (List ℕ)) × IsOf counted.now.bag records }
     ensures end { (records : List (List ℕ)) → IsOf counted.now.bag records
-        → IfOk result (IsEnd counted.now.bag.n records tab.now sets) }
+        → IfOk result (IsEnd counted.now.bag.n records tab.now sets gap) }
     ensures fault { (records : List (List ℕ)) → IsOf counted.now.bag records
         → IfErr result (IsFault counted.now.bag.n records tab.now sets) }
 {
@@ -71,7 +103,8 @@ pub fn find_fewest(
         BestEnd::Found(found) => found,
         BestEnd::Undecided => return Ok(FewestEnd::Undecided),
     };
-    match fewest_nens(alloc, counted, tab.winner, best.margin, sets) {
+    let least = least_margin(best.margin, gap);
+    match nens_of(alloc, counted, tab.winner, best.margin, least, sets) {
         Ok(found) => {
             let claims = claims_of(alloc, tab.order.len(), tab.winner, sets, found)?;
             Ok(FewestEnd::Found(FewestAssertions {

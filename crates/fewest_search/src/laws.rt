@@ -1,5 +1,5 @@
 //! The laws of the fewest NENs of a contest: each holds of every value that it names, and has no code.
-ghost use Rattle.fewest_search.specs.Laws.{SetsAreFew, NeverBoth, AllAreNeeded, NensAreNeeded, BestIsReached};
+ghost use Rattle.fewest_search.specs.Laws.{SetsAreFew, NeverBoth, AllAreNeeded, NensAreNeeded, GapIsRoundedUp, NoGapIsBest, BestIsReached};
 
 /// No contest needs more sets than there are, less three. So a budget of that many is never spent.
 pub fn sets_are_few()
@@ -21,7 +21,17 @@ pub fn nens_are_needed()
     ensures { NensAreNeeded }
 {}
 
-/// The smallest margin is the best one.
+/// The least margin that a gap leaves is rounded up.
+pub fn gap_is_rounded_up()
+    ensures { GapIsRoundedUp }
+{}
+
+/// Without a gap it is the best one.
+pub fn no_gap_is_best()
+    ensures { NoGapIsBest }
+{}
+
+/// No margin is below it, and the smallest isn't above the best one.
 pub fn best_is_reached()
     ensures { BestIsReached }
 {}

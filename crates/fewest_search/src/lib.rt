@@ -1,4 +1,4 @@
-//! The assertions of a contest with the fewest NENs at its best margin, within a budget of sets.
+//! The assertions of a contest with the fewest NENs at its best margin, or at one a little below it, within a budget of sets.
 //!
 //! The search by sets gives the best margin and the certificate's order (`set_search`), and a minimum cut the fewest NENs (`nen_cut`). Then
 //! each NEB that can go is dropped, by trials of what the others cover (`trimmer`). The certificate is never listed.
@@ -7,6 +7,7 @@
 mod ends;
 pub mod examples;
 mod finding;
+mod gap;
 mod in_order;
 pub mod laws;
 mod sparing;

@@ -4,9 +4,10 @@ ghost use Rattle.irv_base.specs.Candidates.{candidates, set_of};
 ghost use Rattle.set_tallies.specs.Bags.{IsOf};
 ghost use Rattle.nen_cut.specs.Budgets.{IsWithin};
 
+use crate::all::all_of;
 use crate::barring::is_barred;
 use irv_base::{CandSet, Candidate, Memory};
-use set_tallies::Tallies;
+use set_tallies::{Counted, Tallies};
 use set_walk::{Goes, WalkEnd, WalkFault, walk_within};
 use std::alloc::Global;
 
@@ -66,4 +67,21 @@ pub(crate) fn is_within(
             WalkFault::Memory => Err(Memory),
         },
     }
+}
+
+/// Whether no more than `sets` sets stand beside the NEBs of at least the margin `least`.
+pub fn stand_within(
+    alloc: Global,
+    counted: &Counted,
+    winner: Candidate,
+    least: u32,
+    sets: u32,
+) -> Result<bool, Memory>
+    requires { winner < counted.now.bag.n }
+    ensures { (records : List (List ℕ)) → IsOf counted.now.bag records
+        → IfOk result (IsWithin counted.now.bag.n records winner least sets) }
+{
+    let tallies = counted.tallies()?;
+    let all = all_of(tallies.candidates());
+    is_within(alloc, &tallies, winner, all, least, sets)
 }

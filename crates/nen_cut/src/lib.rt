@@ -18,5 +18,6 @@ mod nebs;
 mod nens;
 mod strongest;
 
+pub use by_nebs::stand_within;
 pub use fault::NensFault;
 pub use least::{FewestNens, fewest_nens};

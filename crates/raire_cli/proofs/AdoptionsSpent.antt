@@ -1,4 +1,4 @@
--- More sets count of claims exactly if their adoption is spent.
+-- More sets count of claims exactly if their adoption is spent, and none is if its budget is enough.
 use Rattle.std.proofs.Common.{◌≡◌, ◌∙◌, ℕ, ◌<◌, ◌==◌, Bool, true, false, nat_lt, if◌then◌else◌, List, Option, None, Some, Result, Ok, Err, refl, sym, ap, subst, arith, eqb-true, eq-eqb, lt-ltb, ltb-true}
 use Rattle.desk.specs.Desk.{File}
 use Rattle.irv_base.specs.Names.{Id}
@@ -9,8 +9,10 @@ use Rattle.budget.specs.declared.budget.Budget.{Budget}
 use Rattle.budget.specs.declared.budget.Budget.TheVariants.{Sets}
 use Rattle.claims_file.specs.Claimed.{Claimed}
 use Rattle.claims_file.specs.Reading.{claims_of}
+use Rattle.claims_file.proofs.Sound.{claims-sound}
 use Rattle.cover_checker.specs.Covers.{covered_is, or_spent, standing_order, standing_sets, verdict_on as cover_verdict_on}
 use Rattle.cover_checker.specs.declared.cover.Verdict.{Verdict as CoverVerdict}
+use Rattle.cover_checker.proofs.Enough.{enough-verdict, never_over}
 use Rattle.cover_checker.specs.declared.cover.CoverFault.{CoverFault}
 use Rattle.cover_checker.specs.declared.cover.CoverFault.TheVariants.{Spent as SpentAt, SpentSets, Memory}
 use Rattle.adoption.specs.Adopted.{each_once}
@@ -19,14 +21,20 @@ use Rattle.adoption.specs.declared.adoption.Adoption.TheVariants.{OtherWinner, U
 use Rattle.adoption.proofs.Adopting.{none-untrue, untrue-none}
 use Rattle.adoption.proofs.Answered.{on-cover, spends}
 use Rattle.cli_base.specs.Outcome.{Verdict, Answered}
-use Rattle.cli_base.specs.Script.{Script, Ends, AsHeld, Concludes}
+use Rattle.cli_base.specs.Script.{Script, Ends, AsHeld, ComesTo, Concludes}
+use Rattle.cli_base.specs.Statuses.{HasAnswer}
 use Rattle.cli_base.specs.declared.outcome.AnswerKind.{AnswerKind}
 use Rattle.cli_base.specs.declared.outcome.AnswerKind.TheVariants.{Spent}
 use Rattle.command.specs.declared.adopt.AdoptTask.{AdoptTask}
+use Rattle.command_line.specs.declared.commands.Command.TheVariants.{Adopt}
 use Rattle.contest_search.specs.Contest.{IsWon, candidate_count}
+use Rattle.contest_search.proofs.ReadBallots.{ballots_fit}
 use Rattle.input_files.specs.Refusals.{refused_ballots, refused_claims}
 use Rattle.report.specs.Ends.{spent_sets}
 use Rattle.adopt_command.specs.Adopt.{Adopts, after_ballots, script, verdict_on}
+use Rattle.raire_cli.specs.Answers.{asked, asked_by}
+use Rattle.raire_cli.specs.Asks.{Asks}
+use Rattle.raire_cli.specs.Enough.{AreEnoughToAdopt}
 use Rattle.raire_cli.specs.Held.{AreClaimed}
 use Rattle.raire_cli.specs.Sets.{ClaimsCountMore}
 use Rattle.raire_cli.proofs.Said.{said, says_of, saying}
@@ -108,3 +116,22 @@ module _ (files : List File) (task : AdoptTask) where
       (λ bytes ballots. after_ballots task.claims task.budget ballots) b.bytes b.held b.is_short ballots b.is v
       (saying files task.claims (refused_claims task.claims) (claims_of ballots.contest ballots.candidates)
       (λ bytes claims. Ends (Adopts task.budget ballots claims)) c.bytes c.held c.is_short claims c.is v adopts)
+
+-- ---- enough nodes or sets
+
+pub adoption_never : (words : List (List ℕ)) (files : List File) (adopt : Asks Adopt words) → AreEnoughToAdopt files adopt.task →
+    HasAnswer (asked words) files Spent → ⊥
+adoption_never words files adopt suffices (text, comes) =
+    let task = adopt.task in
+    let (ballots, claims, are, (answer, found, told)) = claims_said files task Spent text
+    (subst (λ command. ComesTo (AsHeld files) (asked_by command) (Answered Spent text)) adopt.asked comes) in
+    let fit = ballots_fit are.of_ballots.bytes task.contest ballots are.of_ballots.is in
+    let sound = claims-sound ballots.candidates ballots.contest are.of_claims.bytes claims are.of_claims.is in
+    let (fault, is) = spent_answer ballots.candidates answer text told in
+    let a : IsAnswer task.budget ballots claims (Err fault) = subst (IsAnswer task.budget ballots claims) is found in
+    let s = spends task.budget ballots claims a.winner fault a.answer_is in
+    let count = candidate_count ballots in
+    let list = each_once count claims.assertions in
+    let enough = never_over count claims.winner list task.budget sound.winner fit.fewest (suffices ballots are.of_ballots) in
+    let bad = sym (enough-verdict count claims.winner list task.budget enough) ∙ s.spent in
+    absurd (cc bad)

@@ -49,7 +49,7 @@ use Rattle.raire_cli.specs.PluralityTies.{TellsPluralityTie}
 use Rattle.raire_cli.specs.Polls.{IsPollOf, IsPolled, is_confirmed_by, told_of}
 use Rattle.raire_cli.specs.PollsComplete.{IsPollComplete}
 use Rattle.raire_cli.specs.PollsEach.{IsEachPollOf, IsPolledEach, is_confirmed_by as is_confirmed_by_each, told_of as told_of_each}
-use Rattle.raire_cli.specs.Enough.{AreEnough, Judging, IsNeverSpent, judging_of}
+use Rattle.raire_cli.specs.Enough.{IsNeverSpent, IsNeverSpentOver}
 use Rattle.raire_cli.specs.Openings.{Opens, IsOpened}
 use Rattle.raire_cli.specs.Contests.{AuditsContests, IsAuditedByContest, blocks_of}
 use Rattle.raire_cli.proofs.Accepted.{held_of}
@@ -58,6 +58,7 @@ use Rattle.raire_cli.proofs.ContestsAudited.{audited_by}
 use Rattle.raire_cli.proofs.Adoptions.{adopted_of, has_adoption}
 use Rattle.raire_cli.proofs.Trims.{printed_of}
 use Rattle.raire_cli.proofs.Audited.{IsKind, goes_on}
+use Rattle.raire_cli.proofs.AdoptionsSpent.{adoption_never}
 use Rattle.raire_cli.proofs.Enough.{never_spent}
 use Rattle.raire_cli.proofs.Limited.{limited}
 use Rattle.raire_cli.proofs.Opened.{is_opened}
@@ -385,11 +386,13 @@ module _ (words : List (List ℕ)) {held : Option (List File)} {failed : Type 0}
 
   pub enough_clause : IsNeverSpent held words status
   enough_clause = if_some held (λ files. status ≡ 4 → (text : List ℕ) × ComesTo (AsHeld files) (asked words) (Answered Spent text) × Took out text)
-      (λ files. (command : Command) (judging : Judging) → command_of words ≡ Some command → judging_of command ≡ Some judging → AreEnough files judging →
-      status ≢ 4)
-      (λ files spent command judging line is enough four.
-      let (text, comes, took) = spent four in
-      never_spent words files command judging line is enough (text, comes))
+      (λ files. IsNeverSpentOver files words status)
+      (λ files spent. record {
+        judged = λ command judging line is enough four.
+            let (text, comes, took) = spent four in never_spent words files command judging line is enough (text, comes);
+        adopted = λ adopt enough four.
+            let (text, comes, took) = spent four in adoption_never words files adopt enough (text, comes);
+      })
       (answered_with story Spent)
 
   -- ---- a number of sets

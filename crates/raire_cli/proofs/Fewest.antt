@@ -1,9 +1,9 @@
 -- Status 0 of a search for the fewest NENs comes with a file that confirms the winner with them, and status 5 with reason for a full count. Within
 -- its budget it ends so.
-use Rattle.std.proofs.Common.{◌≡◌, ◌⊎◌, inl, inr, ℕ, ◌<◌, ◌≤◌, ◌-◌, ◌^◌, ◌&&◌, true, nat_le, length, map, List, [], Some, Ok, All, Contains, refl, sym, ap, ap₂, subst, arith, le-leb, ◌∙◌}
+use Rattle.std.proofs.Common.{◌≡◌, ◌⊎◌, inl, inr, ℕ, ◌<◌, ◌≤◌, ◌-◌, ◌^◌, ◌&&◌, ◌==◌, true, false, if◌then◌else◌, nat_le, length, map, List, [], None, Some, Ok, All, Contains, refl, sym, ap, ap₂, subst, arith, eq-eqb, eqb-true, le-leb, ◌∙◌}
 use Rattle.std.specs.Prelude.{unwrap_or, IsSomeAnd}
 use Rattle.std.specs.List.{list_any}
-use Rattle.std.proofs.lemmas.Bool.{and_parts, and_from}
+use Rattle.std.proofs.lemmas.Bool.{and_parts, and_from, false_from_ne_true}
 use Rattle.std.proofs.lemmas.List.Elements.{All-contains}
 use Rattle.desk.specs.Desk.{File, held_bytes}
 use Rattle.irv_base.proofs.Members.{Member, contains-from_member, list_all-each, list_any-member, member-from_contains, member-map}
@@ -22,7 +22,8 @@ use Rattle.assertion_file.specs.Text.{assertion_file_text}
 use Rattle.cover_checker.proofs.Held.{all-from_members, refuting_claim}
 use Rattle.trimmer.specs.Laws.{IsIrredundant}
 use Rattle.fewest_search.proofs.Findings.{each-enough}
-use Rattle.fewest_search.proofs.Needs.{all_are_needed, some-at_best}
+use Rattle.fewest_search.specs.Gap.{least_margin}
+use Rattle.fewest_search.proofs.Needs.{all_are_needed, least-kept, none-above_best}
 use Rattle.report.specs.Texts.{order_text}
 use Rattle.cli_base.specs.Outcome.{Outcome, Verdict, Answered, outcome}
 use Rattle.cli_base.specs.Script.{Script, Ends, AsHeld, ComesTo, May, MayCome}
@@ -32,10 +33,11 @@ use Rattle.cli_base.proofs.Statuses.{status_in}
 use Rattle.command.specs.declared.search_fewest.SearchFewestTask.{SearchFewestTask}
 use Rattle.command_line.specs.declared.commands.Command.TheVariants.{SearchFewest}
 use Rattle.input_files.specs.Refusals.{refused_ballots}
-use Rattle.contest_search.specs.Certificate.{margin_of}
+use Rattle.contest_search.specs.Certificate.{certificate_of, margin_of}
 use Rattle.contest_search.specs.Contest.{candidate_count}
-use Rattle.contest_search.specs.Fewest.{IsFewestFoundIn, fewest_sets_of}
+use Rattle.contest_search.specs.Fewest.{IsFewestFoundIn, fewest_sets_of, with_own_margin}
 use Rattle.contest_search.proofs.Contests.{winner-below, winner-one}
+use Rattle.contest_search.proofs.OwnMargin.{own, own-reached, own-smallest}
 use Rattle.contest_search.proofs.ReadBallots.{ballots_fit}
 use Rattle.search_commands.specs.Search.{full_count_lines, has_cards, printed}
 use Rattle.search_commands.specs.SearchFewest.{Finds, HasFewest, HasFullCount, Searches}
@@ -43,9 +45,9 @@ use Rattle.search_commands.proofs.Fewest.{done_is, found_by, full_count_is, sear
 use Rattle.search_commands.proofs.Ties.{never_both}
 use Rattle.raire_cli.specs.Asks.{Asks}
 use Rattle.raire_cli.specs.Answers.{asked, asked_by}
-use Rattle.raire_cli.specs.Confirmation.{ClaimHolds, Confirms, IsHardest}
-use Rattle.raire_cli.specs.Fewest.{AreTrueBy, ConfirmsFewest, GivesFewestReason, HasFewestNens, IsFewestSearchable, RuleOut}
-use Rattle.raire_cli.proofs.Confirmed.{confirms-least, hardest_order}
+use Rattle.raire_cli.specs.Confirmation.{ClaimHolds, IsHardest, IsLeast}
+use Rattle.raire_cli.specs.Fewest.{AreTrueBy, ConfirmsBelow, ConfirmsFewest, GivesFewestReason, HasFewestNens, IsBestMargin, IsFewestSearchable, RuleOut}
+use Rattle.raire_cli.proofs.Confirmed.{certificate-confirms, confirms-least, hardest_order}
 use Rattle.raire_cli.proofs.Said.{IsSaid, said, says}
 
 abbrev assertion-of : Claim → Assertion
@@ -53,28 +55,37 @@ assertion-of claim = claim.assertion
 
 -- ---- the file
 
-module _ (ballots : BallotFile) (sets : ℕ) (file : Content) (two : 1 < candidate_count ballots) (found : IsFewestFoundIn sets ballots file) where
+module _ (ballots : BallotFile) (sets gap : ℕ) (file : Content) (two : 1 < candidate_count ballots) (found : IsFewestFoundIn sets gap ballots file) where
   abbrev n : ℕ
   n = candidate_count ballots
 
   abbrev records : List (List ℕ)
   records = ballots.rankings
 
-  abbrev best : ℕ
+  abbrev pub best : ℕ
   best = margin_of ballots found.winner
+
+  abbrev floor : ℕ
+  floor = least_margin gap best
+
+  abbrev printed-file : Content
+  printed-file = with_own_margin file
 
   abbrev list : List Assertion
   list = map assertion-of file.claims
 
-  margin-is : file.margin ≡ best
+  abbrev below : found.winner < n
+  below = winner-below ballots found.winner found.won
+
+  pub margin-is : file.margin ≡ best
   margin-is = ap (λ (f : Content). f.margin) found.is
 
   claim-holds : (claim : Claim) → Member claim file.claims → ClaimHolds n records claim
   claim-holds claim m =
       let a = claim.assertion in
-      let enough = each-enough n found.winner records best list found.claims.fewest a (member-map assertion-of m) in
-      let (proper, rest) = and_parts (is_proper n a) (is_true records a && nat_le best (true_margin records a)) enough in
-      let (holds, _) = and_parts (is_true records a) (nat_le best (true_margin records a)) rest in
+      let enough = each-enough n found.winner records floor list found.claims.fewest a (member-map assertion-of m) in
+      let (proper, rest) = and_parts (is_proper n a) (is_true records a && nat_le floor (true_margin records a)) enough in
+      let (holds, _) = and_parts (is_true records a) (nat_le floor (true_margin records a)) rest in
       record {
         proper = proper;
         holds = holds;
@@ -82,39 +93,76 @@ module _ (ballots : BallotFile) (sets : ℕ) (file : Content) (two : 1 < candida
             (contains-from_member m);
       }
 
-  pub confirms : Confirms n records found.winner file
-  confirms =
-      let below = winner-below ballots found.winner found.won in
-      let (smallest, reached) = some-at_best n found.winner sets records file.claims below two found.claims in
-      record {
-        hold = all-from_members (ClaimHolds n records) file.claims claim-holds;
-        cover = λ order (whole, (c, ne, elects)).
-            let (a, m, r) = from_covers n found.winner list order found.claims.fewest.complete.covering
-            (alternative-member n found.winner c order whole ne elects) in
-            refuting_claim file.claims order a m r;
-        reached = (reached.0, reached.1, reached.2 ∙ sym margin-is);
-        smallest = subst (λ margin. All (λ (claim : Claim). margin ≤ claim.margin) file.claims) (sym margin-is) smallest;
-        order = subst (λ order. IsSomeAnd order (λ order. IsHardest n records found.winner order file.margin))
-            (sym (ap (λ (f : Content). f.order) found.is)) (hardest_order n records found.winner found.order file.margin below two margin-is found.hardest);
-      }
+  abbrev some-claim : (claim : Claim) × Contains file.claims claim × (claim.margin ≤ best)
+  some-claim = none-above_best n found.winner sets floor records file.claims below two found.claims
 
-  pub fewest : HasFewestNens n records found.winner file
+  pub hardest : IsHardest n records found.winner found.order best
+  hardest = hardest_order n records found.winner found.order best below two refl found.hardest
+
+  -- the best margin is that of the certificate
+  pub is-best : IsBestMargin n records found.winner best
+  is-best =
+      let certificate = certificate_of ballots found.winner found.order in
+      let confirms = certificate-confirms ballots certificate two
+      (record { winner = found.winner; won = found.won; decided = found.decided; order = found.order; least = found.hardest; is = refl }) in
+      record { least = confirms-least n records found.winner certificate confirms; order = found.order; hardest = hardest }
+
+  pub not-above : own file.claims ≤ best
+  not-above =
+      let (claim, k, le) = some-claim in
+      let ge = All-contains (λ (claim : Claim). own file.claims ≤ claim.margin) file.claims claim (own-smallest file.claims) k in
+      omega (arith, le, ge)
+
+  at-best : own file.claims ≡ best → IsSomeAnd printed-file.order (λ order. IsHardest n records found.winner order (own file.claims))
+  at-best same =
+      let is : (own file.claims == file.margin) ≡ true = eq-eqb (own file.claims) file.margin (same ∙ sym margin-is) in
+      let order : printed-file.order ≡ Some found.order =
+      ap (λ b. if b then file.order else None) is ∙ ap (λ (f : Content). f.order) found.is in
+      subst (λ order. IsSomeAnd order (λ order. IsHardest n records found.winner order (own file.claims))) (sym order)
+      (subst (IsHardest n records found.winner found.order) (sym same) hardest)
+
+  below-best : own file.claims < best → printed-file.order ≡ None
+  below-best l =
+      let is : (own file.claims == file.margin) ≡ false =
+      false_from_ne_true (own file.claims == file.margin) (λ t. let e = eqb-true (own file.claims) file.margin t in omega (arith, e, l, margin-is)) in
+      ap (λ b. if b then file.order else None) is
+
+  pub confirms : ConfirmsBelow n records found.winner best printed-file
+  confirms = record {
+    hold = all-from_members (ClaimHolds n records) file.claims claim-holds;
+    cover = λ order (whole, (c, ne, elects)).
+        let (a, m, r) = from_covers n found.winner list order found.claims.fewest.complete.covering
+        (alternative-member n found.winner c order whole ne elects) in
+        refuting_claim file.claims order a m r;
+    reached = own-reached file.claims some-claim.0 some-claim.1;
+    smallest = own-smallest file.claims;
+    not_above = not-above;
+    at_best = at-best;
+    below_best = below-best;
+  }
+
+  pub least-kept_by : least_margin gap best ≤ own file.claims
+  least-kept_by =
+      let (claim, k, e) = own-reached file.claims some-claim.0 some-claim.1 in
+      let ge = All-contains (λ (claim : Claim). floor ≤ claim.margin) file.claims claim
+      (least-kept n found.winner sets floor records file.claims below two found.claims) k in
+      omega (arith, e, ge)
+
+  pub fewest : HasFewestNens n records found.winner floor printed-file
   fewest others are out = found.claims.fewest.least others (record {
-    enough = list_all-each (is_enough n records best) others (λ a m.
-        let (proper, holds, reaches) = All-contains (λ a. (is_proper n a ≡ true) × (is_true records a ≡ true) × (file.margin ≤ true_margin records a))
+    enough = list_all-each (is_enough n records floor) others (λ a m.
+        let (proper, holds, reaches) = All-contains (λ a. (is_proper n a ≡ true) × (is_true records a ≡ true) × (floor ≤ true_margin records a))
         others a are (contains-from_member m) in
-        and_from (is_proper n a) (is_true records a && nat_le best (true_margin records a)) proper
-        (and_from (is_true records a) (nat_le best (true_margin records a)) holds
-        (le-leb best (true_margin records a) (omega (arith, reaches, margin-is)))));
+        and_from (is_proper n a) (is_true records a && nat_le floor (true_margin records a)) proper
+        (and_from (is_true records a) (nat_le floor (true_margin records a)) holds (le-leb floor (true_margin records a) reaches)));
     covering = list_all-each (λ order. list_any (λ a. refutes a order) others) (alternative_orders n found.winner) (λ order m.
         let (a, among, r) = out order (from_alternative n found.winner order m) in
         list_any-member (λ a. refutes a order) (member-from_contains a others among) r);
   })
 
-  pub needed : 2 ^ n - 3 ≤ sets → IsIrredundant file
+  pub needed : 2 ^ n - 3 ≤ sets → IsIrredundant printed-file
   needed all before claim behind is =
-      let (order, alternative, stands) = all_are_needed n found.winner sets best records file.claims before claim behind
-      (winner-below ballots found.winner found.won) two all found.claims is in
+      let (order, alternative, stands) = all_are_needed n found.winner sets floor records file.claims before claim behind below two all found.claims is in
       let names : length file.candidates ≡ n = ap (λ (f : Content). length f.candidates) found.is in
       let who : file.winner ≡ found.winner = ap (λ (f : Content). f.winner) found.is in
       (order, rw (names, who) alternative, stands)
@@ -135,13 +183,14 @@ module _ (words : List (List ℕ)) (files : List File) (asks : Asks SearchFewest
 
   confirmed : (bytes : List ℕ) (ballots : BallotFile) (text : List ℕ) → held_bytes asks.task.ballots files ≡ Some bytes →
       ballots_of bytes asks.task.contest ≡ Ok ballots → has_cards asks.task.plan ballots ≡ true →
-      HasFewest asks.task.sets asks.task.floor asks.task.plan ballots text →
+      HasFewest asks.task.sets asks.task.gap asks.task.floor asks.task.plan ballots text →
       (file : Content) × ConfirmsFewest words files file × (text ≡ assertion_file_text file)
   confirmed bytes ballots text held is cards has =
       let sets = asks.task.sets in
+      let gap = asks.task.gap in
       let two = (ballots_fit bytes asks.task.contest ballots is).fewest in
-      let by = confirms ballots sets has.file two has.is in (
-        printed asks.task.plan has.file,
+      let by = confirms ballots sets gap has.file two has.is in (
+        printed asks.task.plan (with_own_margin has.file),
         record {
           ballots = ballots;
           winner = has.is.winner;
@@ -151,10 +200,21 @@ module _ (words : List (List ℕ)) (files : List File) (asks : Asks SearchFewest
           candidates = ap (λ (f : Content). f.candidates) has.is.is;
           records = ap (λ (f : Content). f.records) has.is.is;
           named = ap (λ (f : Content). f.winner) has.is.is;
-          floor = has.floor;
-          confirms = record { hold = by.hold; cover = by.cover; reached = by.reached; smallest = by.smallest; order = by.order };
-          fewest = fewest ballots sets has.file two has.is;
-          needed = needed ballots sets has.file two has.is;
+          best = margin_of ballots has.is.winner;
+          is_best = is-best ballots sets gap has.file two has.is;
+          floor = subst (λ margin. asks.task.floor ≤ margin) (margin-is ballots sets gap has.file two has.is) has.floor;
+          confirms = record {
+            hold = by.hold;
+            cover = by.cover;
+            reached = by.reached;
+            smallest = by.smallest;
+            not_above = by.not_above;
+            at_best = by.at_best;
+            below_best = by.below_best;
+          };
+          least = least-kept_by ballots sets gap has.file two has.is;
+          fewest = fewest ballots sets gap has.file two has.is;
+          needed = needed ballots sets gap has.file two has.is;
           plan = refl;
         },
         has.shown,
@@ -162,10 +222,11 @@ module _ (words : List (List ℕ)) (files : List File) (asks : Asks SearchFewest
 
   reasoned : (bytes : List ℕ) (ballots : BallotFile) (text : List ℕ) → held_bytes asks.task.ballots files ≡ Some bytes →
       ballots_of bytes asks.task.contest ≡ Ok ballots → has_cards asks.task.plan ballots ≡ true →
-      HasFullCount asks.task.sets asks.task.floor ballots text → GivesFewestReason words files text
+      HasFullCount asks.task.sets asks.task.gap asks.task.floor ballots text → GivesFewestReason words files text
   reasoned bytes ballots text held is cards has =
       let two = (ballots_fit bytes asks.task.contest ballots is).fewest in
-      let by = confirms ballots asks.task.sets has.file two has.is in
+      let same = margin-is ballots asks.task.sets asks.task.gap has.file two has.is in
+      let best = is-best ballots asks.task.sets asks.task.gap has.file two has.is in
       record {
         ballots = ballots;
         winner = has.is.winner;
@@ -174,9 +235,9 @@ module _ (words : List (List ℕ)) (files : List File) (asks : Asks SearchFewest
         order = has.is.order;
         margin = has.file.margin;
         below = has.floor;
-        reason = subst (λ order. IsSomeAnd order (λ order. IsHardest (candidate_count ballots) ballots.rankings has.is.winner order has.file.margin))
-            (ap (λ (f : Content). f.order) has.is.is) by.order;
-        least = confirms-least (candidate_count ballots) ballots.rankings has.is.winner has.file by;
+        reason = subst (IsHardest (candidate_count ballots) ballots.rankings has.is.winner has.is.order) (sym same)
+            (hardest ballots asks.task.sets asks.task.gap has.file two has.is);
+        least = subst (IsLeast (candidate_count ballots) ballots.rankings has.is.winner) (sym same) best.least;
         shown = has.shown ∙ ap₂ (λ names order. full_count_lines (order_text names (unwrap_or order [])) has.file.margin asks.task.floor)
             (ap (λ (f : Content). f.candidates) has.is.is) (ap (λ (f : Content). f.order) has.is.is);
       }
@@ -186,13 +247,13 @@ module _ (words : List (List ℕ)) (files : List File) (asks : Asks SearchFewest
   confirms_fewest text comes =
       let came = search_came Done text comes in
       let (cards, finds) = found_by asks.task came.value Done text came.rest in
-      confirmed came.bytes came.value text came.held came.is cards (done_is asks.task.sets asks.task.floor asks.task.plan came.value text finds)
+      confirmed came.bytes came.value text came.held came.is cards (done_is asks.task.sets asks.task.gap asks.task.floor asks.task.plan came.value text finds)
 
   pub gives_fewest_reason : (text : List ℕ) → ComesTo (AsHeld files) (asked words) (Answered FullCount text) → GivesFewestReason words files text
   gives_fewest_reason text comes =
       let came = search_came FullCount text comes in
       let (cards, finds) = found_by asks.task came.value FullCount text came.rest in
-      reasoned came.bytes came.value text came.held came.is cards (full_count_is asks.task.sets asks.task.floor asks.task.plan came.value text finds)
+      reasoned came.bytes came.value text came.held came.is cards (full_count_is asks.task.sets asks.task.gap asks.task.floor asks.task.plan came.value text finds)
 
 -- ---- within its budget
 
@@ -200,7 +261,7 @@ module _ (words : List (List ℕ)) (files : List File) (ok : IsFewestSearchable 
   abbrev task : SearchFewestTask
   task = ok.asks.search.task
 
-  answers : (v : Verdict) (d : Outcome) → Finds task.sets task.floor task.plan ok.ballots v → d ≡ outcome v → (d.status ≡ 0) ⊎ (d.status ≡ 5)
+  answers : (v : Verdict) (d : Outcome) → Finds task.sets task.gap task.floor task.plan ok.ballots v → d ≡ outcome v → (d.status ≡ 0) ⊎ (d.status ≡ 5)
   answers v d (inl (text, has, e)) is = inl (ap status_in (is ∙ ap outcome e))
   answers v d (inr (inl (text, (tie, told), e))) is = absurd (never_both ok.ballots ok.winner text ok.decided tie)
   answers v d (inr (inr (inl (text, spent, e)))) is =

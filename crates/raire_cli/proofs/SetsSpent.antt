@@ -101,7 +101,7 @@ spent_more files (Search task) sets text is comes =
 spent_more files (SearchFewest task) sets text is comes =
     let (ballots, are, ends) = said_of files task.ballots task.contest (search_fewest.Searches task) Spent text comes in
     let (cards, finds) = fewest_found.found_by task ballots Spent text ends in
-    let spent = fewest_found.spent_is task.sets task.floor task.plan ballots text finds in
+    let spent = fewest_found.spent_is task.sets task.gap task.floor task.plan ballots text finds in
     (ballots, (are, cards), fewest_needed sets ballots text (subst (λ k. search_fewest.HasSpent k ballots text) (same_sets is) spent))
 spent_more files (Trial task) sets text is comes =
     let (other, spent) = tried_spent task text comes in
@@ -140,7 +140,7 @@ more_spent files (Search task) sets is (ballots, (are, cards), more) =
 more_spent files (SearchFewest task) sets is (ballots, (are, cards), more) =
     let (text, spent) = fewest_told_spent sets ballots more in
     let its : search_fewest.HasSpent task.sets ballots text = subst (λ k. search_fewest.HasSpent k ballots text) (sym (same_sets is)) spent in
-    let finds : search_fewest.Finds task.sets task.floor task.plan ballots (Answered Spent text) = inr (inr (inl (text, its, refl))) in (
+    let finds : search_fewest.Finds task.sets task.gap task.floor task.plan ballots (Answered Spent text) = inr (inr (inl (text, its, refl))) in (
       text,
       comes_of files task.ballots task.contest (search_fewest.Searches task) ballots are (Answered Spent text)
           (fewest_found.searched_with task ballots (Answered Spent text) cards finds),
@@ -193,7 +193,7 @@ never_by_sets files (SearchFewest task) ballots sets text (are, cards) is enough
     let (has, finds) = fewest_found.found_by task ballots Spent text
     (ends_there files task.ballots task.contest (search_fewest.Searches task) ballots are Spent text comes) in
     enough_of_fewest sets ballots text enough
-    (subst (λ k. search_fewest.HasSpent k ballots text) (same_sets is) (fewest_found.spent_is task.sets task.floor task.plan ballots text finds))
+    (subst (λ k. search_fewest.HasSpent k ballots text) (same_sets is) (fewest_found.spent_is task.sets task.gap task.floor task.plan ballots text finds))
 never_by_sets files (Trial task) ballots sets text same is enough comes =
     let (other, spent) = tried_spent task text comes in
     let its : HasSpent task.budget ballots other = subst (λ contest. HasSpent task.budget contest other) (sym same) spent in

@@ -118,7 +118,7 @@ module _ (words : List (List ℕ)) (files : List File) (text : List ℕ) where
   tells (Some (SearchFewest task)) is comes =
       let (ballots, are, ends) = said_of files task.ballots task.contest (search_fewest.Searches task) Tie text comes in
       let (cards, finds) = fewest_found.found_by task ballots Tie text ends in
-      inl (told_of (SearchFewest task) ballots is (are, cards) (fewest_found.tie_is task.sets task.floor task.plan ballots text finds).0)
+      inl (told_of (SearchFewest task) ballots is (are, cards) (fewest_found.tie_is task.sets task.gap task.floor task.plan ballots text finds).0)
   tells (Some (Tabulate task)) is comes =
       let (ballots, are, ends) = said_of files task.ballots task.contest (Tabulates task.nodes) Tie text comes in
       inl (told_of (Tabulate task) ballots is are (tie_tabulated text task.nodes ballots ends))
@@ -229,7 +229,7 @@ module _ (files : List File) (ballots : BallotFile) (text : List ℕ) (fewest : 
   never_spent (SearchFewest task) (are, cards) budget comes =
       let (has, finds) = fewest_found.found_by task ballots Spent text
       (ends_there files task.ballots task.contest (search_fewest.Searches task) ballots are Spent text comes) in
-      let its = fewest_found.spent_is task.sets task.floor task.plan ballots text finds in
+      let its = fewest_found.spent_is task.sets task.gap task.floor task.plan ballots text finds in
       let two : 1 < candidate_count ballots = omega (arith, fewest) in
       never_told ballots task.sets its.order its.margin two undecided
       (record { winner = its.is.winner; won = its.is.won; within = budget its.is.winner its.is.won }) its.is

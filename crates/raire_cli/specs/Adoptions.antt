@@ -25,8 +25,8 @@ pub record IsAdoptedOf (words : List (List ℕ)) (files : List File) (file : Con
   pub ballots : BallotFile
   pub claims : Claimed
   pub are : AreClaimed files asks.task.ballots asks.task.claims asks.task.contest ballots claims
-  -- its assertions are those of the claims file, each once, in the fixed order; each is true of the records with its margin; and they
-  -- refute every order that elects another candidate than the file's winner
+  -- the claims file's assertions are each true of the records, and refute every order that elects another candidate than its winner; the
+  -- file's are the same, each once, in the fixed order, with its margin over the records
   pub adopted : IsAdopted ballots claims file
   -- whom each way of breaking ties elects
   pub decided : AllElect (candidate_count ballots) ballots.rankings file.winner
@@ -37,7 +37,9 @@ pub record IsAdoptedOf (words : List (List ℕ)) (files : List File) (file : Con
 
 -- ---- what `run` promises
 
--- Status 0 of an adoption: `out` has the assertion file of the claims.
+-- Status 0 of an adoption: `out` has the assertion file of the claims. Its assertions are those that were named, each once. Each is true
+-- of the records with its margin, they refute every order that elects another candidate than the file's winner, and each way of breaking
+-- ties elects this one.
 abbrev pub AreAdopted : Option (List File) → List (List ℕ) → ℕ → Writing → Type 0
 AreAdopted held words status out = IfSome held (λ files. Asks Adopt words → status ≡ 0 →
     (file : Content) × IsAdoptedOf words files file × Took out (assertion_file_text file))

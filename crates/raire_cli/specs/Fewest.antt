@@ -1,7 +1,8 @@
 -- What it means that assertions with the fewest NENs confirm the winner of some records.
-use Rattle.std.specs.Prelude.{◌≡◌, ◌⊎◌, ◌-◌, ◌^◌, ◌≤◌, ◌<◌, ℕ, List, All, Contains, Option, Some, IfSome, Ok, IsTrue, length, map, option_map}
+use Rattle.std.specs.Prelude.{◌≡◌, ◌⊎◌, ◌-◌, ◌^◌, ◌≤◌, ◌<◌, ℕ, List, All, Contains, Option, None, Some, IfSome, IsSomeAnd, Ok, IsTrue, length, map, option_map}
 use Rattle.desk.specs.Desk.{File, held_bytes}
 use Rattle.assertions.specs.declared.assertion.Assertion.{Assertion}
+use Rattle.assertions.specs.declared.assertion.Claim.{Claim}
 use Rattle.assertions.specs.Assertions.{is_proper, is_true, true_margin}
 use Rattle.assertions.specs.Refutation.{refutes}
 use Rattle.assertions.specs.Suffixes.{IsAlternative}
@@ -16,11 +17,12 @@ use Rattle.cli_base.specs.Ends.{Writing, Took}
 use Rattle.cli_base.specs.Script.{limit}
 use Rattle.cli_base.specs.Statuses.{IsQuiet}
 use Rattle.command_line.specs.declared.commands.Command.TheVariants.{SearchFewest}
+use Rattle.fewest_search.specs.Gap.{least_margin}
 use Rattle.contest_search.specs.Contest.{candidate_count, IsElected, IsWon}
 use Rattle.contest_search.specs.Fewest.{fewest_sets_of}
 use Rattle.search_commands.specs.Search.{full_count_lines, has_cards, plan_by}
 use Rattle.raire_cli.specs.Asks.{Asks}
-use Rattle.raire_cli.specs.Confirmation.{Confirms, GivesReason, IsHardest, IsLeast}
+use Rattle.raire_cli.specs.Confirmation.{ClaimHolds, GivesReason, IsHardest, IsLeast}
 
 -- ---- as few NENs as there can be
 
@@ -35,11 +37,32 @@ RuleOut n winner list =
     (order : List ℕ) → IsAlternative n winner order →
     (a : Assertion) × Contains list a × IsTrue (refutes a order)
 
--- no other assertions that do have fewer NENs, if they are true by the file's margin at least
-abbrev pub HasFewestNens : ℕ → List (List ℕ) → ℕ → Content → Type 0
-HasFewestNens n records winner file =
-    (others : List Assertion) → AreTrueBy n records file.margin others → RuleOut n winner others →
+-- no other assertions that do have fewer NENs, if each is true by at least this margin
+abbrev pub HasFewestNens : ℕ → List (List ℕ) → ℕ → ℕ → Content → Type 0
+HasFewestNens n records winner least file =
+    (others : List Assertion) → AreTrueBy n records least others → RuleOut n winner others →
     nen_count (map (λ claim. claim.assertion) file.claims) ≤ nen_count others
+
+-- the best margin: each order that elects another candidate is refuted by a true assertion of at least that margin, and one by none of a
+-- larger margin
+pub record IsBestMargin (n : ℕ) (records : List (List ℕ)) (winner margin : ℕ) : Type 0 where
+  pub least : IsLeast n records winner margin
+  pub order : List ℕ
+  pub hardest : IsHardest n records winner order margin
+
+-- the assertions are all true of the records, and refute every elimination order that elects another candidate; the margin is the smallest of
+-- theirs, and there is an order only if it is the best one
+pub record ConfirmsBelow (n : ℕ) (records : List (List ℕ)) (winner best : ℕ) (file : Content)
+    : Type 0 where
+  pub hold : All (ClaimHolds n records) file.claims
+  pub cover : (order : List ℕ) → IsAlternative n winner order →
+      (claim : Claim) × Contains file.claims claim × IsTrue (refutes claim.assertion order)
+  pub reached : (claim : Claim) × Contains file.claims claim × (claim.margin ≡ file.margin)
+  pub smallest : All (λ claim. file.margin ≤ claim.margin) file.claims
+  pub not_above : file.margin ≤ best
+  pub at_best : file.margin ≡ best →
+      IsSomeAnd file.order (λ order. IsHardest n records winner order file.margin)
+  pub below_best : file.margin < best → file.order ≡ None
 
 -- ---- a search for the fewest NENs
 
@@ -54,8 +77,8 @@ pub record AsksForFewest (words : List (List ℕ)) (files : List File) (ballots 
   pub cards : IsTrue (has_cards search.task.plan ballots)
   pub won : IsWon ballots winner
 
--- this is a file that confirms the winner of the contest that was asked for, whom each way of breaking its ties elects, by a margin
--- that reaches the floor and with the fewest NENs
+-- this is a file that confirms the winner of the contest that was asked for, whom each way of breaking its ties elects, with the fewest NENs;
+-- the best margin reaches the floor, and the file's isn't below it by more than the gap
 pub record ConfirmsFewest (words : List (List ℕ)) (files : List File) (file : Content) : Type 0 where
   pub ballots : BallotFile
   pub winner : ℕ
@@ -65,9 +88,13 @@ pub record ConfirmsFewest (words : List (List ℕ)) (files : List File) (file : 
   pub candidates : file.candidates ≡ ballots.candidates
   pub records : file.records ≡ length ballots.rankings
   pub named : file.winner ≡ winner
-  pub floor : asks.search.task.floor ≤ file.margin
-  pub confirms : Confirms (candidate_count ballots) ballots.rankings winner file
-  pub fewest : HasFewestNens (candidate_count ballots) ballots.rankings winner file
+  pub best : ℕ
+  pub is_best : IsBestMargin (candidate_count ballots) ballots.rankings winner best
+  pub floor : asks.search.task.floor ≤ best
+  pub confirms : ConfirmsBelow (candidate_count ballots) ballots.rankings winner best file
+  pub least : least_margin asks.search.task.gap best ≤ file.margin
+  pub fewest : HasFewestNens (candidate_count ballots) ballots.rankings winner
+      (least_margin asks.search.task.gap best) file
   -- each of its assertions is needed, if there are as many sets as are ever needed
   pub needed : 2 ^ candidate_count ballots - 3 ≤ asks.search.task.sets → IsIrredundant file
   -- it has the clean draws of its assertions, if the words give a number of cards
@@ -89,10 +116,11 @@ pub record GivesFewestReason (words : List (List ℕ)) (files : List File) (text
 -- ---- what `run` promises
 
 -- Status 0 of a search for the fewest NENs: each way of breaking ties elects the winner. The printed assertions are all true of the records,
--- and refute every elimination order that elects another candidate. The printed margin is the smallest of theirs, and no true assertion of
--- larger margin refutes the printed order. No true assertions of at least that margin that refute all these orders have fewer NENs. If there
--- are as many sets as are ever needed, each printed assertion is needed. If the words give a number of cards, the printed draws are those
--- of a clean audit; otherwise there are none.
+-- and refute every elimination order that elects another candidate. The printed margin is the smallest of theirs. It isn't below the best margin
+-- by more than the gap, and if it is the best one, an order is printed that no true assertion of larger margin refutes. No true assertions
+-- whose margins aren't below by more than the gap, and which refute all these orders, have fewer NENs. If there are as many sets as are ever
+-- needed, each printed assertion is needed. If the words give a number of cards, the printed draws are those of a clean audit; otherwise
+-- there are none.
 abbrev pub IsFewest : Option (List File) → List (List ℕ) → ℕ → Writing → Type 0
 IsFewest held words status out =
     IfSome held (λ files. Asks SearchFewest words → status ≡ 0 →

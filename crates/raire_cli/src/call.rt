@@ -64,7 +64,8 @@ pub fn run<R: AllocGlobal + Threads + Sync, D: Desk, O: Sink, E: Sink, G: Gate +
     ensures headline { IsConfirmed (D.held desk.old) (texts words.now) result
         (writing O.Sink out.old out.new) }
 
-    // So do assertions of a search for the fewest NENs. No true assertions of at least their smallest margin that do have fewer NENs.
+    // So do assertions of a search for the fewest NENs. No true assertions that do have fewer NENs, if none of their margins is below the
+    // best one by more than the gap.
     ensures fewest { IsFewest (D.held desk.old) (texts words.now) result
         (writing O.Sink out.old out.new) }
 
@@ -102,7 +103,8 @@ pub fn run<R: AllocGlobal + Threads + Sync, D: Desk, O: Sink, E: Sink, G: Gate +
         (Rose (D.faults desk.old) (D.faults desk.new)) result
         (writing O.Sink out.old out.new) (writing E.Sink err.old err.new) }
 
-    // With enough nodes or sets no check is spent, also before a trim, before a session is opened or goes on, and before a poll.
+    // With enough nodes or sets no check is spent, also before a trim, before a session is opened or goes on, and before a poll; and no
+    // adoption is.
     ensures enough { IsNeverSpent (D.held desk.old) (texts words.now) result }
 
     // With 2^n - 3 sets or more no search and no trial of n candidates is spent, a trial over any desk.

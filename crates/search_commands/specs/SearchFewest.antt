@@ -14,25 +14,25 @@ use Rattle.command.specs.declared.plan_terms.PlanTerms.{PlanTerms}
 use Rattle.command.specs.declared.search_fewest.SearchFewestTask.{SearchFewestTask}
 use Rattle.input_files.specs.Judged.{told, go_on}
 use Rattle.input_files.specs.Refusals.{refused_ballots}
-use Rattle.contest_search.specs.Fewest.{IsFewestFoundIn, IsSpentFewest}
+use Rattle.contest_search.specs.Fewest.{IsFewestFoundIn, IsSpentFewest, with_own_margin}
 use Rattle.search_commands.specs.Ends.{HasTieIn}
 use Rattle.search_commands.specs.Search as search
 use Rattle.search_commands.specs.Search.{full_count_text, has_cards, more_ballots, printed}
 
--- ---- how it ends, with so many sets, where a margin below `least` calls for a full count
+-- ---- how it ends, with so many sets and such a gap, where a best margin below `least` calls for a full count
 
 -- with assertions of the fewest NENs if the best margin reaches that, as they are printed with such a plan
-pub record HasFewest (sets least : ℕ) (plan : Option PlanTerms) (ballots : BallotFile)
+pub record HasFewest (sets gap least : ℕ) (plan : Option PlanTerms) (ballots : BallotFile)
     (text : List ℕ) : Type 0 where
   pub file : Content
-  pub is : IsFewestFoundIn sets ballots file
+  pub is : IsFewestFoundIn sets gap ballots file
   pub floor : least ≤ file.margin
-  pub shown : text ≡ assertion_file_text (printed plan file)
+  pub shown : text ≡ assertion_file_text (printed plan (with_own_margin file))
 
 -- and with only the order if it doesn't
-pub record HasFullCount (sets least : ℕ) (ballots : BallotFile) (text : List ℕ) : Type 0 where
+pub record HasFullCount (sets gap least : ℕ) (ballots : BallotFile) (text : List ℕ) : Type 0 where
   pub file : Content
-  pub is : IsFewestFoundIn sets ballots file
+  pub is : IsFewestFoundIn sets gap ballots file
   pub floor : file.margin < least
   pub shown : text ≡ full_count_text file least
 
@@ -43,11 +43,11 @@ pub record HasSpent (sets : ℕ) (ballots : BallotFile) (text : List ℕ) : Type
   pub is : IsSpentFewest sets ballots order margin
   pub shown : text ≡ spent_sets_text ballots.candidates sets order margin
 
-abbrev pub Finds : ℕ → ℕ → Option PlanTerms → BallotFile → Verdict → Type 0
-Finds sets least plan ballots verdict =
-    One (HasFewest sets least plan ballots) Done verdict
+abbrev pub Finds : ℕ → ℕ → ℕ → Option PlanTerms → BallotFile → Verdict → Type 0
+Finds sets gap least plan ballots verdict =
+    One (HasFewest sets gap least plan ballots) Done verdict
     ⊎ One (HasTieIn (Sets sets) ballots) Tie verdict ⊎ One (HasSpent sets ballots) Spent verdict
-    ⊎ One (HasFullCount sets least ballots) FullCount verdict
+    ⊎ One (HasFullCount sets gap least ballots) FullCount verdict
 
 -- ---- the command
 
@@ -55,7 +55,7 @@ Finds sets least plan ballots verdict =
 abbrev pub Searches : SearchFewestTask → BallotFile → Verdict → Type 0
 Searches task ballots verdict =
     MatchBool (has_cards task.plan ballots)
-    (Finds task.sets task.floor task.plan ballots verdict) (verdict ≡ more_ballots task.ballots)
+    (Finds task.sets task.gap task.floor task.plan ballots verdict) (verdict ≡ more_ballots task.ballots)
 
 abbrev pub script : SearchFewestTask → Script
 script task = Read task.ballots (λ bytes.

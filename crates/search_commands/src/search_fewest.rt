@@ -1,5 +1,5 @@
 // `search FILE --fewest`: assertions that together confirm the winner of a ballot file's contest with the fewest NENs, or why there are none.
-ghost use Rattle.std.specs.Prelude.{◌≡◌, IsTrue};
+ghost use Rattle.std.specs.Prelude.{◌≡◌, ◌<◌, IsTrue};
 ghost use Rattle.desk.specs.Count.{Rose};
 ghost use Rattle.cli_base.specs.Accounts.{IsAccountedFor};
 ghost use Rattle.cli_base.specs.Begun.{HasCome};
@@ -7,6 +7,7 @@ ghost use Rattle.cli_base.specs.Due.{due, IsOneOrMemory};
 ghost use Rattle.cli_base.specs.Faults.{IsFaultTold};
 ghost use Rattle.cli_base.specs.Script.{ByDesk, Runs};
 ghost use Rattle.command.specs.SearchFewest.{IsWithinLimits};
+ghost use Rattle.contest_search.specs.Contest.{candidate_count};
 ghost use Rattle.contest_search.specs.Fewest.{IsFewestFoundIn};
 ghost use Rattle.search_commands.specs.Search.{has_cards};
 ghost use Rattle.search_commands.specs.SearchFewest.{Finds, Searches, script};
@@ -18,7 +19,7 @@ use assertion_file::{AssertionFile, print_file};
 use ballot_reader::Votes;
 use cli_base::{Answer, AnswerKind, Refusal, refuse_at};
 use command::SearchFewestTask;
-use contest_search::{Found, find_fewest};
+use contest_search::{Found, find_fewest, with_own_margin};
 use desk::Desk;
 use input_files::{MOST_READERS, votes_of_file};
 use std::alloc::Global;
@@ -67,12 +68,12 @@ fn search<R: AllocGlobal + Threads + Sync>(
 ) -> Result<Answer, Refusal>
     requires limits { IsWithinLimits task.now }
     requires cards { IsTrue (has_cards task.now.plan votes.now) }
-    ensures { IsOneOrMemory (Finds task.now.sets task.now.floor task.now.plan votes.now)
+    ensures { IsOneOrMemory (Finds task.now.sets task.now.gap task.now.floor task.now.plan votes.now)
         (due result) }
 {
     let alloc = rt.alloc();
     let names = votes.candidates();
-    let found = find_fewest(rt, votes, task.workers, task.sets)?;
+    let found = find_fewest(rt, votes, task.workers, task.sets, task.gap)?;
     match found {
         Found::Certificate(file) => assertions(alloc, votes, file, task),
         Found::Tie {
@@ -90,7 +91,7 @@ fn search<R: AllocGlobal + Threads + Sync>(
     }
 }
 
-// The assertions as they are printed, or their order as the reason for a full count, if the margin is below the floor.
+// The assertions as they are printed, or their order as the reason for a full count, if the best margin is below the floor.
 fn assertions(
     alloc: Global,
     votes: &Votes,
@@ -98,9 +99,10 @@ fn assertions(
     task: &SearchFewestTask,
 ) -> Result<Answer, Refusal>
     requires limits { IsWithinLimits task.now }
+    requires candidates { 1 < candidate_count votes.now }
     requires cards { IsTrue (has_cards task.now.plan votes.now) }
-    requires found { IsFewestFoundIn task.now.sets votes.now file }
-    ensures { IsOneOrMemory (Finds task.now.sets task.now.floor task.now.plan votes.now)
+    requires found { IsFewestFoundIn task.now.sets task.now.gap votes.now file }
+    ensures { IsOneOrMemory (Finds task.now.sets task.now.gap task.now.floor task.now.plan votes.now)
         (due result) }
 {
     if file.margin() < task.floor {
@@ -109,7 +111,7 @@ fn assertions(
             text: full_count(alloc, &file, task.floor)?,
         });
     }
-    let file = printed(alloc, file, task.plan)?;
+    let file = printed(alloc, with_own_margin(alloc, file)?, task.plan)?;
     Ok(Answer {
         kind: AnswerKind::Done,
         text: print_file(alloc, &file)?,

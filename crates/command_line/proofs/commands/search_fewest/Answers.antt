@@ -8,5 +8,6 @@ returns c = λ pieces fit shows i. SearchFewest (record {
   workers = c.number.ensures pieces fit shows.options.1.0 i;
   sets = c.number-2.ensures pieces fit shows.options.1.1.0 i;
   floor = c.number-3.ensures pieces fit shows.options.1.1.1.0 i;
-  plan = c.plan_terms.ensures pieces fit shows.options.1.1.1.1.0 shows.options.1.1.1.1.1.0 shows.options.1.1.1.1.1.1.0 i;
+  gap = c.number-4.ensures pieces fit shows.options.1.1.1.1.0 i;
+  plan = c.plan_terms.ensures pieces fit shows.options.1.1.1.1.1.0 shows.options.1.1.1.1.1.1.0 shows.options.1.1.1.1.1.1.1.0 i;
 })

@@ -1,4 +1,4 @@
-use Rattle.std.proofs.Common.{◌≡◌, inl, take, length, sym, ap, subst, ◌∙◌}
+use Rattle.std.proofs.Common.{◌≡◌, inl, take, length, ap, subst, ◌∙◌}
 use Rattle.std.proofs.Math.Seq.{take-append_seam}
 use Rattle.trimmer.specs.Remaining.{assertions_in as assertions_left}
 use Rattle.trimmer.specs.Spreading.{IsHalt}

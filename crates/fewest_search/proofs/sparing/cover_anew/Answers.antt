@@ -1,4 +1,4 @@
-use Rattle.std.proofs.Common.{◌≡◌, inl, inr, refl, Ok, Err, subst}
+use Rattle.std.proofs.Common.{inl, inr, refl, Ok, Err, subst}
 use Rattle.set_walk.specs.Walks.{passes}
 use Rattle.cover_checker.specs.Reaching.{IsReach}
 use Rattle.trimmer.specs.Remaining.{assertions_in as assertions_left}

@@ -1,4 +1,4 @@
-use Rattle.std.proofs.Common.{◌≡◌, Bool, ◌≤◌, ◌+◌, ◌-◌, ◌<◌, length, get_or, map, take, None, Ok, MatchBool, sym, ap, subst, arith, ◌∙◌}
+use Rattle.std.proofs.Common.{◌≡◌, Bool, ◌+◌, ◌-◌, ◌<◌, length, map, take, None, Ok, MatchBool, sym, ap, subst, arith, ◌∙◌}
 use Rattle.std.proofs.lemmas.List.{append-nil}
 use Rattle.assertions.specs.declared.assertion.Claim.{Claim}
 use Rattle.set_walk.specs.Answers.{first_within}

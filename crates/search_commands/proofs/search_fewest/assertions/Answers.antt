@@ -2,7 +2,13 @@ use Rattle.std.proofs.Common.{inl, inr, refl, ap, arith, ◌∙◌}
 use Rattle.assertion_file.specs.Text.{assertion_file_text}
 use Rattle.cli_base.specs.Outcome.{Answered}
 use Rattle.cli_base.specs.declared.outcome.AnswerKind.TheVariants.{Done, FullCount}
+use Rattle.contest_search.proofs.FewestAccepted.{some-claims}
+use Rattle.search_commands.specs.Search.{printed}
 use Rattle.search_commands.proofs.search_fewest.assertions.Goals as goal
+
+pub with_own_margin-requires-clause-claims : goal.with_own_margin-requires-clause-claims
+with_own_margin-requires-clause-claims c =
+    some-claims c.args.task.now.sets c.args.task.now.gap c.args.votes.now c.args.file c.requires.candidates c.requires.found
 
 pub returns-then-margin-task : goal.returns-then-margin-task
 returns-then-margin-task c =
@@ -35,7 +41,8 @@ returns c =
           file = c.args.file;
           is = c.requires.found;
           floor = omega (arith, reached, same);
-          shown = c.in_ok-print_file.ensures.text ∙ ap assertion_file_text c.in_ok-file.ensures;
+          shown = c.in_ok-print_file.ensures.text
+              ∙ ap assertion_file_text (c.in_ok-file.ensures ∙ ap (printed c.args.task.now.plan) c.in_ok-with_own_margin.ensures);
         },
         refl,
       ),

@@ -65,7 +65,7 @@ case("another word", ["agree", "a.csv", "b.csv"], "b.csv: V1 at 1: the card b_1 
      b_csv="b_1,balot\n")
 case("missing, and something more", ["agree", "a.csv", "b.csv"], "b.csv: V1 at 1: the card b_1 is missing, and", a_csv="b_1,ballot\n",
      b_csv="b_1,missing,Ann\n")
-case("a card twice", ["agree", "a.csv", "b.csv"], "b.csv: V3 at 2: the card b_1 came before", a_csv="b_1,ballot\n", b_csv="b_1,ballot\nb_1,ballot\n")
+case("a card twice", ["agree", "a.csv", "b.csv"], "b.csv: V3 at 2: the card b_1 is already in record 1", a_csv="b_1,ballot\n", b_csv="b_1,ballot\nb_1,ballot\n")
 case("marks without ranks", ["agree", "a.csv", "b.csv"], "b.csv: V1 at 1: the card b_1 has marks, and", a_csv="b_1,ballot\n", b_csv="b_1,marks,Ann\n")
 case("a quote that isn't closed", ["agree", "a.csv", "b.csv"], "b.csv: V1 at 1: a quote isn't closed", a_csv="b_1,ballot\n",
      b_csv='b_1,ballot,"Ann\nb_2,ballot\n')
@@ -80,7 +80,7 @@ case("names of two contests", ["agree", "a.csv", "b.csv", "--names=n.csv"], "n.c
 case("names of another contest", ["agree", "a.csv", "b.csv", "--names=n.csv", "--contest=x"], "n.csv has no candidates of contest x", n_csv=NAMES, **AGREE)
 case("names with a record that is none", ["agree", "a.csv", "b.csv", "--names=n.csv"], "n.csv: record 2 isn't contest,id,name",
      n_csv="contest,id,name\nm,Ann\n", **AGREE)
-case("a name twice", ["agree", "a.csv", "b.csv", "--names=n.csv"], "n.csv: record 3 is about Ann, who came", n_csv="id,name\nAnn,A\nAnn,B\n", **AGREE)
+case("a name twice", ["agree", "a.csv", "b.csv", "--names=n.csv"], "n.csv: record 3 repeats Ann", n_csv="id,name\nAnn,A\nAnn,B\n", **AGREE)
 case("names that look alike", ["agree", "a.csv", "b.csv", "--names=n.csv"], "n.csv: record 2 calls Ann A, and record 3 calls Ben a; these names look alike",
      n_csv="id,name\nAnn,A\nBen,a\n", **AGREE)
 case("names without a head that is one", ["rounds", "b.raire", "--names=n.csv"], "n.csv: record 1 isn't id,name", b_raire=BALLOTS,
@@ -92,7 +92,7 @@ case("names that aren't text", ["agree", "a.csv", "b.csv", "--names=n.csv"], "n.
 NAMED = ["tabulate", "b.raire", "--names", "n.csv"]
 case("names twice", ["names", *NAMED, "--names=n.csv"], "--names is given twice", 1)
 case("names without a file", ["names", "tabulate", "b.raire", "--names"], "--names needs a file", 1)
-case("a contest's name twice", ["names", *NAMED], "n.csv: record 3 is about m, which came before", b_raire=BALLOTS, n_csv="contest,id,name\nm,,M\nm,,N\n")
+case("a contest's name twice", ["names", *NAMED], "n.csv: record 3 repeats m", b_raire=BALLOTS, n_csv="contest,id,name\nm,,M\nm,,N\n")
 case("a name that looks like an id", ["names", *NAMED], "n.csv calls Ann ben, and has no name for Ben; both look alike", b_raire=BALLOTS, n_csv="id,name\nAnn,ben\n")
 case("lines over the names", ["names", *NAMED, "> n.csv"], "n.csv would be written over", 1, b_raire=BALLOTS, n_csv=NAMES)
 case("names for rounds", ["rounds", "b.raire", "--names=n.csv"], "n.csv: record 1 isn't id,name", b_raire=BALLOTS, n_csv="Ann\n")
@@ -105,7 +105,7 @@ case("a ballot without a card", ["boxes", "b.raire", "m.csv"], "raire: b.raire: 
 case("one file for batches", ["batches", "b.raire"], "give a ballot file, a manifest", 1)
 case("a batch that isn't there", ["batches", "b.raire", "m.csv", "--also=x"], "--also names x, and m.csv has no such batch", b_raire=BALLOTS, m_csv=MANIFEST)
 case("a tie without an order", ["rounds", "b.raire"], "Ann,Ben tie; --ties gives the order", 3, b_raire=TIE)
-case("an order of others", ["rounds", "b.raire", "--ties=Cy"], "--ties names Cy, who is no candidate; there are: Ann; Ben", b_raire=TIE)
+case("an order of others", ["rounds", "b.raire", "--ties=Cy"], "--ties names Cy, who isn't a candidate; there are: Ann; Ben", b_raire=TIE)
 case("an order with one twice", ["rounds", "b.raire", "--ties=Ann,Ann"], "--ties names a candidate twice", b_raire=TIE)
 case("assertions that don't hold", ["export", "shangrla", "b.raire", "a.json"], "raire: a.json: F1 at 0", b_raire=BALLOTS, a_json="")
 
@@ -143,21 +143,21 @@ imported("an error", 'has an error in place of assertions: "InvalidCandidateNumb
 imported("no assertions", "0 of these files have assertions", '{"metadata": {}}')
 imported("a list", "isn't an object", "[]")
 imported("an assertion that is none", "assertion 2: isn't an object", json.dumps({**SERVICE["metadata"], "winner": 0, "assertions": [NEB, 3]}))
-imported("assertions that are no list", "has another kind of assertions, where a list was looked for", solution(result={"assertions": 3}))
-imported("candidates that are no texts", "candidates has 3, where a text was looked for", solution(NEB, metadata={"candidates": ["Ann", 3, "Cy"]}))
+imported("assertions that are no list", "has the wrong type for assertions; expected a list", solution(result={"assertions": 3}))
+imported("candidates that are no texts", "candidates has 3; expected a text", solution(NEB, metadata={"candidates": ["Ann", 3, "Cy"]}))
 imported("another number of candidates", "num_candidates is 4, and candidates has 3", solution(NEB, result={"num_candidates": 4}))
-imported("a name for a number", 'assertion 1: winner: "Ann" is no candidate: a number was looked for', solution({**NEB, "winner": "Ann"}), form="raire-rs")
-imported("nobody", "assertion 1: loser: null is no candidate: a number or a name", solution({**NEB, "loser": None}))
+imported("a name for a number", 'assertion 1: winner: "Ann" isn\'t a candidate: expected a number', solution({**NEB, "winner": "Ann"}), form="raire-rs")
+imported("nobody", "assertion 1: loser: null isn't a candidate: expected a number or a name", solution({**NEB, "loser": None}))
 imported("numbers of nobody", "assertion 1: winner: names candidate 0, and no metadata.candidates says who", '{"assertions": [{"type": "NEB", "winner": 0, "loser": 1}]}')
 imported("a number that is too large", "assertion 1: loser: names candidate 3, and the 3 candidates are numbered from 0", solution({**NEB, "loser": 3}))
-imported("another kind of assertion", "assertion 2: its type is NEQ; NEB or NEN was looked for", solution(NEB, {**NEB, "type": "NEQ"}))
-imported("a kind that is missing", "assertion 1: has no type, where a text was looked for", solution({"winner": 0, "loser": 1}))
+imported("another kind of assertion", "assertion 2: its type is NEQ; expected NEB or NEN", solution(NEB, {**NEB, "type": "NEQ"}))
+imported("a kind that is missing", "assertion 1: has no type; expected a text", solution({"winner": 0, "loser": 1}))
 imported("a NEN of nobody", "assertion 1: has no continuing", solution({**NEB, "type": "NEN"}))
 imported("one twice", "assertion 1: continuing has Ben twice", solution({**NEN, "continuing": [0, 1, 1]}))
-imported("a loser who is out", "assertion 1: its winner Ann or its loser Ben isn't still in", solution({**NEN, "continuing": [0, 2]}))
+imported("a loser who is out", "assertion 1: its winner Ann or its loser Ben is no longer in", solution({**NEN, "continuing": [0, 2]}))
 imported("a winner who is the loser", "assertion 1: its winner is its loser, Ann", solution({**NEB, "loser": 0}))
 imported("a candidate who isn't listed", "assertion 1: Dee isn't among the candidates", solution({**NEB, "loser": "Dee"}))
-imported("a name that is no id", "'Zoë' can't be the id of a candidate", solution(NEB, metadata={"candidates": ["Ann", "Zoë", "Cy"]}))
+imported("a name that isn't an id", "'Zoë' can't be the id of a candidate", solution(NEB, metadata={"candidates": ["Ann", "Zoë", "Cy"]}))
 imported("one candidate twice", "candidates has Ann twice", solution(NEB, metadata={"candidates": ["Ann", "Ben", "Ann"]}))
 imported("one candidate", "has 1 candidates; 2 to ", solution(metadata={"candidates": ["Ann"]}, result={"num_candidates": 1}))
 imported("nobody listed", "doesn't list the candidates", '{"assertions": [], "contest": "m", "winner": "Ann"}')
@@ -170,13 +170,13 @@ imported("a name that is an id", "2 is the name of 1, and the id of somebody els
 imported("audits that aren't there", "has no audits", "{}", form="raire")
 imported("a kind of SHANGRLA's that isn't known", "audit 1: assertion 1: its assertion_type is LOSER_ONLY", audits({**ONLY, "assertion_type": "LOSER_ONLY"}), form="raire")
 imported("eliminated twice", "audit 1: assertion 1: already_eliminated has Cy twice", audits({**NEXT, "already_eliminated": ["Cy", "Cy"]}), form="raire")
-imported("a winner who is eliminated", "audit 1: assertion 1: its winner Ann or its loser Ben isn't still in", audits({**NEXT, "already_eliminated": ["Ann"]}),
+imported("a winner who is eliminated", "audit 1: assertion 1: its winner Ann or its loser Ben is no longer in", audits({**NEXT, "already_eliminated": ["Ann"]}),
          form="raire")
-imported("eliminated by numbers", "audit 1: assertion 1: already_eliminated has 3, where a text", audits({**NEXT, "already_eliminated": [3]}), form="raire")
+imported("eliminated by numbers", "audit 1: assertion 1: already_eliminated has 3; expected a text", audits({**NEXT, "already_eliminated": [3]}), form="raire")
 imported("a contest without assertions", "no contest has assertion_json", '{"339": {"candidates": []}}', form="shangrla")
 imported("audits as contests", "no contest has assertion_json; it has audits: its form is raire", audits(ONLY), form="shangrla")
 imported("two winners", "its winner isn't one candidate", json.dumps({**AUDIT, "winner": ["Ann", "Ben"], "assertion_json": [ONLY]}), form="shangrla")
-imported("one of two contests", "--contest has to say which contest is meant; there are: m; s",
+imported("one of two contests", "name the contest with --contest; there are: m; s",
          json.dumps({"audits": [{**AUDIT, "assertions": []}, {**AUDIT, "contest": "s", "assertions": []}]}), form="raire")
 case("import: names of no contest", ["import", "raire-java", "s.json", "--names=n.csv", "--contest=x"], "n.csv has no candidates of contest x", s_json=solution(NEB),
      n_csv=CALLED)
@@ -203,7 +203,7 @@ case("a plan over its manifest", [*POLL_PLAN, "> m.csv"], "m.csv would be writte
 
 # ---- cards
 
-case("two forms", ["cards", *DRAWN, "--page", "--sheet"], "--page, --sheet and --entry are asked for one at a time", 1)
+case("two forms", ["cards", *DRAWN, "--page", "--sheet"], "give only one of --page, --sheet and --entry", 1)
 case("entry without candidates", ["cards", *DRAWN, "--entry"], "--entry needs the candidates", 1)
 case("marks without entry", ["cards", *DRAWN, "--marks"], "--marks is for --entry", 1)
 case("no rank", ["cards", *DRAWN, "--entry", "--ballots=b.raire", "--ranks=0"], "--ranks needs a number from 1 to", 1)
@@ -213,13 +213,13 @@ case("all cards of a seed", ["cards", "m.csv", "--all", "--seed=1"], "--all take
 case("more draws before", ["cards", *DRAWN, "--after=2"], "--after needs fewer draws than --draws", 1, m_csv=MANIFEST)
 case("no card to read", ["cards", *DRAWN, "--after=1", "--entry", "--ballots=b.raire"], "there is no card to read", 1, m_csv="batch,cards\nb,1\n",
      b_raire=BALLOTS)
-case("too many for a page", ["cards", "m.csv", "--all", "--entry", "--ballots=b.raire"], "6,000 cards are more than a page has", 1,
+case("too many for a page", ["cards", "m.csv", "--all", "--entry", "--ballots=b.raire"], "6,000 cards are more than a page holds", 1,
      m_csv="batch,cards\nb,6000\n", b_raire=BALLOTS)
 case("a batch of no manifest", ["cards", "m.csv", "--all", "--batch=x"], "--batch names x, and m.csv has no such batch", m_csv=MANIFEST)
-case("no place", ["cards", *DRAWN, "--places=p.csv"], "p.csv: record 1 is no batch with its place", m_csv=MANIFEST, p_csv="b\n")
+case("no place", ["cards", *DRAWN, "--places=p.csv"], "p.csv: record 1 isn't a batch with its place", m_csv=MANIFEST, p_csv="b\n")
 case("a place of no batch", ["cards", *DRAWN, "--places=p.csv"], "p.csv: record 1 is about x, and m.csv has no such batch", m_csv=MANIFEST, p_csv="x,left\n")
-case("a place twice", ["cards", *DRAWN, "--places=p.csv"], "p.csv: record 2 is about b, which came before", m_csv=MANIFEST, p_csv="b,left\nb,right\n")
-case("a batch without a place", ["cards", *DRAWN, "--places=p.csv"], "p.csv: there is no place of b, of which a card is listed", m_csv=MANIFEST, p_csv="")
+case("a place twice", ["cards", *DRAWN, "--places=p.csv"], "p.csv: record 2 repeats b", m_csv=MANIFEST, p_csv="b,left\nb,right\n")
+case("a batch without a place", ["cards", *DRAWN, "--places=p.csv"], "p.csv: no place for batch b, which has a listed card", m_csv=MANIFEST, p_csv="")
 ENTRY = ["cards", *DRAWN, "--entry", "--names=n.csv"]
 case("entry with names that aren't", ENTRY, "n.csv: record 2 isn't id,name", m_csv=MANIFEST, n_csv="id,name\nAnn\n")
 case("entry with names of two contests", ENTRY, "n.csv has several contests", m_csv=MANIFEST, n_csv=NAMES)
@@ -231,10 +231,10 @@ case("one end of the numbers", ["manifest", "plain", "l.csv", "--first=x"], "--f
 case("a list that isn't there", ["manifest", "plain", "l.csv"], "l.csv: no such file", 12)
 for number, (text, told) in enumerate([
     ("", "is empty"), ("batch\nb\n", "line 1: no column is called cards, count"), ("box number,cards\n1,2\n", "line 1: no column is called batch"),
-    ("batch,cards\nb,x\n", "line 2: x is no number of cards"), ("batch,first,last\nb,1,y\n", "line 2: y is no imprinted number"),
+    ("batch,cards\nb,x\n", "line 2: x isn't a number of cards"), ("batch,first,last\nb,1,y\n", "line 2: y isn't an imprinted number"),
     ("batch,cards,first,last\nb,2,1,3\n", "line 2: the numbers 1 to 3 are 3 cards, and the count is 2"),
     ("batch,cards\nTotal,2\n", "line 2: the row has no batch"),
-    ("batch,cards\nÖl,2\n", "line 2: no manifest can have the batch Öl"), ("batch,cards\nb,2\nb,3\n", "line 3: the batch b came before, at l.csv: line 2"),
+    ("batch,cards\nÖl,2\n", "line 2: no manifest can have the batch Öl"), ("batch,cards\nb,2\nb,3\n", "line 3: the batch b is already at l.csv: line 2"),
     ("batch,first,last\nb,1,5\nc,5,6\n", "line 3: the numbers 5 to 6 of batch c overlap with those of batch b"),
 ]):
     case(f"list {number}", ["manifest", "plain", "l.csv"], f"l.csv: {told}", l_csv=text)
@@ -247,19 +247,19 @@ SHEET = "id,1,2\nb_1,Ann,Ben\n"
 case("an empty word", ["convert", "plain", ""], "a word is empty", 1)
 case("seats of a ranked contest", ["convert", "hart", "x", "--seats=2"], "--seats is for --as pairs", 1)
 case("marks of pairs without seats", ["convert", "marks", "x", "--as=pairs", "--ballots=b"], "marks of pairs need --seats", 1)
-case("counts of marks that were made", ["convert", "dominion", "x", "--marks=made", "--counts=compare"], "--counts has no meaning with --marks made", 1)
+case("counts of marks that were made", ["convert", "dominion", "x", "--marks=made", "--counts=compare"], "--counts doesn't apply with --marks made", 1)
 case("account and names in one file", ["convert", "plain", "s.csv", "--names=x", "--account=./x"], "--account and --names are one file", 1, s_csv=SHEET)
 case("names over the export", ["convert", "plain", "s.csv", "--names=s.csv"], "s.csv would be written over by --account or --names", 1, s_csv=SHEET)
 case("names where the records go", ["convert", "plain", "s.csv", "--names=x", "> x"], "x is both standard output and the file", 1, s_csv=SHEET, x="")
-case("names over a file of names", ["convert", "plain", "s.csv", "--names=x"], "x is there already, and says something else; it would be lost", 1, s_csv=SHEET,
+case("names over a file of names", ["convert", "plain", "s.csv", "--names=x"], "x already exists, and has other content; it would be lost", 1, s_csv=SHEET,
      x="contest,id,name\ns,Ann,Ann Ash\n")
-case("an account over records", ["convert", "plain", "s.csv", "--account=x"], "x is there already, and is no account; it would be lost", 1, s_csv=SHEET, x="1\n")
+case("an account over records", ["convert", "plain", "s.csv", "--account=x"], "x already exists, and isn't an account; it would be lost", 1, s_csv=SHEET, x="1\n")
 case("names to no folder", ["convert", "plain", "s.csv", "--names=none/x"], "none/x: ", 8, s_csv=SHEET)
 case("a full disk", ["convert", "plain", "s.csv", "> /dev/full"], "the output could not be written", 8, s_csv=SHEET)
 case("a sheet of a CSV", ["convert", "plain", "s.csv", "--sheet=x"], "--sheet is for workbooks", 1, s_csv=SHEET)
 ESS = "Cast Vote Record,A Choice 1 of 1,B Choice 1 of 1\nb_1,Ann,Fox\n"
 case("candidates of two contests", ["convert", "ess", "s.csv", "--candidates=c"], "--candidates is the list of one contest", 1, s_csv=ESS, c="Ann\n")
-case("a candidate who withdrew from nowhere", ["convert", "plain", "s.csv", "--without=Cy"], "s.csv: --without names Cy, who is no candidate", s_csv=SHEET)
+case("a candidate who withdrew from nowhere", ["convert", "plain", "s.csv", "--without=Cy"], "s.csv: --without names Cy, who isn't a candidate", s_csv=SHEET)
 
 # ---- convert: sheets
 
@@ -292,8 +292,8 @@ def changed_workbook(old, new, told):
     return make
 
 
-CASES["a workbook with a sheet that is no XML"] = changed_workbook(rb"</sheetData>", b"", "cvr.xlsx: sheet1.xml: no workbook: ")
-CASES["a workbook with a number that is none"] = changed_workbook(rb'<c r="B2".*?</c>', b'<c r="B2" t="n"><v>x</v></c>', "cvr.xlsx: no workbook: ")
+CASES["a workbook with a sheet that is no XML"] = changed_workbook(rb"</sheetData>", b"", "cvr.xlsx: sheet1.xml: not a workbook: ")
+CASES["a workbook with a number that is none"] = changed_workbook(rb'<c r="B2".*?</c>', b'<c r="B2" t="n"><v>x</v></c>', "cvr.xlsx: not a workbook: ")
 
 # ---- convert: PrefLib
 
@@ -317,11 +317,11 @@ case("too many bytes", ["convert", "preflib", "a.soi", "MOST_FILE_BYTES=99"], "a
 # ---- convert: seen files and marks
 
 for name, text, told in [
-    ("a card twice", "b_1,ballot\nb_1,ballot\n", "record 2: the card b_1 came before"), ("no reading", "b_1\n", "record 1: the card b_1 has no reading"),
-    ("missing, and something more", "b_1,missing,Ann\n", "record 1: the card b_1 is missing, and something stands after that"),
+    ("a card twice", "b_1,ballot\nb_1,ballot\n", "record 2: the card b_1 is listed twice"), ("no reading", "b_1\n", "record 1: the card b_1 has no reading"),
+    ("missing, and something more", "b_1,missing,Ann\n", "record 1: the card b_1 is missing, and something comes after that"),
     ("another word", "b_1,balot,Ann\n", "record 1: balot is neither ballot, marks nor missing"),
-    ("another candidate", "b_1,ballot,Fox\n", "record 1: Fox is no candidate of contest m"),
-    ("a rank without a candidate", "b_1,marks,1\n", "record 1: after marks a rank and a candidate"), ("no rank", "b_1,marks,x,Ann\n", "record 1: x is no rank"),
+    ("another candidate", "b_1,ballot,Fox\n", "record 1: Fox isn't a candidate of contest m"),
+    ("a rank without a candidate", "b_1,marks,1\n", "record 1: after marks, expected pairs of a rank and a candidate"), ("no rank", "b_1,marks,x,Ann\n", "record 1: x isn't a rank"),
     ("a write-in", "b_1,marks,1,write-in\n", "record 1: a write-in is marked, and"),
     ("a quote", 'b_1,ballot,"Ann\nb_2,ballot\n', "record 1: has a quote that isn't closed"),
 ]:
@@ -373,7 +373,7 @@ by_columns("a letter in an id", "a.csv: line 5: no id can be made of", ["1", "x"
 by_columns("no records", "a.csv: has no records after its head")
 case("dominion-csv: a shorter line", ["convert", "dominion-csv", "a.csv"], "a.csv: the four lines at the head: the second has 2 fields",
      a_csv="T,5.10\nx,y\nx,y\nTabulatorNum,BatchId,RecordId\n")
-case("dominion-csv: a quote", ["convert", "dominion-csv", "a.csv"], "a.csv: line 1: no comma-separated line", a_csv='"T,5.10\n')
+case("dominion-csv: a quote", ["convert", "dominion-csv", "a.csv"], "a.csv: line 1: not comma-separated, or truncated", a_csv='"T,5.10\n')
 SEATS = 8
 by_columns("too many pairs", "a.csv: 64 records of pairs would be written", ["1", "1", "1", "1", "", *["1", "0"] * SEATS],
            title=f"Board (Vote For={SEATS})", choices=[f"c{n}" for n in range(2 * SEATS)], words=["--as=pairs", "MOST_RECORDS=63"])
@@ -386,7 +386,7 @@ def nist(name, told, *reports):
 
 
 OTHER = [{"@id": "s1", "CandidateIds": ["p2"]}, {"@id": "s2", "CandidateIds": ["p1"]}]
-nist("other candidates", "report2.json: Election 1: contest c has other candidates", bad_exports.report(),
+nist("other candidates", "report2.json: Election 1: contest c has different candidates", bad_exports.report(),
      bad_exports.report(contest={"ContestSelection": OTHER}))
 nist("a candidate who isn't there", "report1.json: Election 1: contest c, ContestSelection 1: CandidateIds names nobody",
      bad_exports.report(contest={"ContestSelection": [{"@id": "s1", "CandidateIds": ["p9"]}]}))
@@ -406,7 +406,7 @@ def zip_without_its_beginning(folder):
     with open(path, "rb") as file:
         data = file.read()
     put(folder, "x.zip", data[10:])
-    return "convert", ["dominion", "x.zip"], 2, "x.zip/CandidateManifest.json: no zip, or cut off"
+    return "convert", ["dominion", "x.zip"], 2, "x.zip/CandidateManifest.json: not a zip, or truncated"
 
 
 CASES["a zip without its beginning"] = zip_without_its_beginning

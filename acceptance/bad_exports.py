@@ -50,13 +50,13 @@ def empty(folder):
 @case
 def dominion_of_another_version(folder):
     words = dominion(folder, session(1), version="4.21.3")
-    return words, 2, "CandidateManifest.json: Version is 4.21.3; a Version 5 was looked for, such as 5.10.50.85"
+    return words, 2, "CandidateManifest.json: Version is 4.21.3; expected a Version 5, such as 5.10.50.85"
 
 
 @case
 def dominion_without_version(folder):
     words = dominion(folder, session(1), files={"CvrExport.json": {"Sessions": [session(1)]}})
-    return words, 2, "CvrExport.json: Version is missing; a Version 5 was looked for, such as 5.10.50.85"
+    return words, 2, "CvrExport.json: Version is missing; expected a Version 5, such as 5.10.50.85"
 
 
 @case
@@ -74,14 +74,14 @@ def dominion_contest_on_no_card(folder):
 def dominion_contest_that_elects_two(folder):
     contests = {"Version": "5.10", "List": [{"Description": "Board", "Id": 5, "VoteFor": 2, "NumOfRanks": 0}]}
     words = dominion(folder, session(1), files={"ContestManifest.json": contests})
-    return [*words, "--contest", "Board"], 2, "in: contest 5 (Board) elects 2, so it is no contest of instant runoff; --as pairs audits it by pairs of candidates"
+    return [*words, "--contest", "Board"], 2, "in: contest 5 (Board) elects 2, so it isn't an instant-runoff contest; --as pairs audits it by pairs of candidates"
 
 
 @case
 def dominion_no_ranked_contest(folder):
     contests = {"Version": "5.10", "List": [{"Description": "Sheriff", "Id": 5, "VoteFor": 1, "NumOfRanks": 0}]}
     words = dominion(folder, session(1), files={"ContestManifest.json": contests})
-    return words, 2, "in: no contest to convert; --contest names one of: 5 (Sheriff): isn't ranked (NumOfRanks is 0)"
+    return words, 2, "in: no contest to convert; name one with --contest: 5 (Sheriff): isn't ranked (NumOfRanks is 0)"
 
 
 @case
@@ -98,7 +98,7 @@ def dominion_mark_of_rank_0(folder):
 
 @case
 def dominion_another_candidate(folder):
-    return dominion(folder, session(1, (3, 1))), 2, "CvrExport.json: session 1: contest 5: CandidateId 3 is no candidate of the contest"
+    return dominion(folder, session(1, (3, 1))), 2, "CvrExport.json: session 1: contest 5: CandidateId 3 isn't a candidate of the contest"
 
 
 @case
@@ -108,7 +108,7 @@ def dominion_two_cards_of_one_id(folder):
 
 @case
 def dominion_id_that_cannot_be_had(folder):
-    told = "CvrExport.json: session 1: no id can be made of TabulatorId 1, BatchId 2, RecordId Z9: three whole numbers were looked for"
+    told = "CvrExport.json: session 1: no id can be made of TabulatorId 1, BatchId 2, RecordId Z9: expected three whole numbers"
     return dominion(folder, session("Z9")), 2, told
 
 
@@ -121,7 +121,7 @@ def dominion_withheld_without_an_image(folder):
 def dominion_no_current_version(folder):
     other = session(1)
     other["Original"]["IsCurrent"] = False
-    return dominion(folder, other), 2, "CvrExport.json: session 1: 0 of its versions (Original) have IsCurrent true, where one was looked for"
+    return dominion(folder, other), 2, "CvrExport.json: session 1: 0 of its versions (Original) have IsCurrent true; expected one"
 
 
 @case
@@ -133,14 +133,14 @@ def dominion_contest_twice_on_a_card(folder):
 
 @case
 def dominion_rank_that_is_a_text(folder):
-    told = "CvrExport.json: session 1: contest 5: has another kind of Rank, where a whole number was looked for"
+    told = "CvrExport.json: session 1: contest 5: has the wrong type for Rank; expected a whole number"
     return dominion(folder, session(1, (1, "1"))), 2, told
 
 
 @case
 def dominion_export_without_sessions(folder):
     empty = {"CvrExport.json": None, "CvrExport_1.json": {"Version": "5.10", "Sessions": [session(1)]}, "CvrExport_2.json": {"Version": "5.10", "Sessions": []}}
-    return dominion(folder, files=empty), 2, "CvrExport_2.json: has no sessions; a list Sessions was looked for, with one for each card"
+    return dominion(folder, files=empty), 2, "CvrExport_2.json: has no sessions; expected a list Sessions, with one for each card"
 
 
 @case
@@ -151,7 +151,7 @@ def dominion_without_a_manifest(folder):
 @case
 def dominion_cut_off(folder):
     text = json.dumps({"Version": "5.10", "Sessions": [session(1), session(2)]})
-    told = "CvrExport.json: no JSON, or cut off after Sessions 1: parse error: premature EOF"
+    told = "CvrExport.json: not JSON, or truncated after Sessions 1: parse error: premature EOF"
     return dominion(folder, files={"CvrExport.json": text[:-30]}), 2, told
 
 
@@ -164,7 +164,7 @@ def dominion_truncated_zip(folder):
             archive.write(os.path.join(folder, name), name)
     with open(path, "r+b") as file:
         file.truncate(os.path.getsize(path) - 40)
-    return ["dominion", path], 2, "export.zip: no zip, or cut off: File is not a zip file"
+    return ["dominion", path], 2, "export.zip: not a zip, or truncated: File is not a zip file"
 
 
 @case
@@ -179,7 +179,7 @@ def dominion_zip_with_a_changed_byte(folder):
         at = data.index(b'"RecordId": 7') + len('"RecordId": ')
         file.seek(at)
         file.write(b"8")
-    return ["dominion", path], 2, "export.zip/CvrExport.json: no zip, or cut off: Bad CRC-32 for file 'CvrExport.json'"
+    return ["dominion", path], 2, "export.zip/CvrExport.json: not a zip, or truncated: Bad CRC-32 for file 'CvrExport.json'"
 
 
 @case
@@ -260,12 +260,12 @@ def nist_missing_folder_beside_a_report(folder):
 
 @case
 def nist_of_another_version(folder):
-    return nist(folder, report(Version="2.0")), 2, "report1.json: Version is 2.0; 1.0.0 was looked for (NIST SP 1500-103)"
+    return nist(folder, report(Version="2.0")), 2, "report1.json: Version is 2.0; expected 1.0.0 (NIST SP 1500-103)"
 
 
 @case
 def nist_of_another_type(folder):
-    told = "report1.json: @type is ENR.ElectionReport; CVR.CastVoteRecordReport was looked for (NIST SP 1500-103)"
+    told = "report1.json: @type is ENR.ElectionReport; expected CVR.CastVoteRecordReport (NIST SP 1500-103)"
     return nist(folder, report(**{"@type": "ENR.ElectionReport"})), 2, told
 
 
@@ -277,7 +277,7 @@ def nist_unknown_contest(folder):
 @case
 def nist_contest_of_three_winners(folder):
     words = [*nist(folder, report(contest={"NumberElected": 3})), "--contest", "Mayor"]
-    return words, 2, "report1.json: contest c (Mayor) elects 3, so it is no contest of instant runoff; --as pairs audits it by pairs of candidates"
+    return words, 2, "report1.json: contest c (Mayor) elects 3, so it isn't an instant-runoff contest; --as pairs audits it by pairs of candidates"
 
 
 @case
@@ -301,7 +301,7 @@ def nist_another_selection(folder):
 
 @case
 def nist_snapshot_that_is_not_there(folder):
-    told = "report1.json: CVR 1: 0 snapshots have the id later of CurrentSnapshotId, where one was looked for"
+    told = "report1.json: CVR 1: 0 snapshots have the id later of CurrentSnapshotId; expected one"
     return nist(folder, report({"CurrentSnapshotId": "later"})), 2, told
 
 
@@ -325,13 +325,13 @@ def nist_two_cards_of_one_id(folder):
 
 @case
 def nist_one_report_empty(folder):
-    return nist(folder, report(), report(CVR=[])), 2, "report2.json: has no records; a list CVR was looked for, with one for each card"
+    return nist(folder, report(), report(CVR=[])), 2, "report2.json: has no records; expected a list CVR, with one for each card"
 
 
 @case
 def nist_cut_off(folder):
     put(folder, "report.json", json.dumps(report())[:-9])
-    return ["nist", os.path.join(folder, "report.json")], 2, "report.json: no JSON, or cut off: parse error: premature EOF"
+    return ["nist", os.path.join(folder, "report.json")], 2, "report.json: not JSON, or truncated: parse error: premature EOF"
 
 
 # ---- sheets
@@ -342,7 +342,7 @@ ESS = "Cast Vote Record,Precinct,Mayor Choice 1 of 2,Mayor Choice 2 of 2\n"
 @case
 def ess_of_another_form(folder):
     path = put(folder, "cvr.csv", "Cast Vote Record,Mayor\n1,Ash\n")
-    return ["ess", path], 2, "cvr.csv: line 1: no column has 'Choice 1 of 5' or '1st Choice' in its name, which were looked for (ES&S's form)"
+    return ["ess", path], 2, "cvr.csv: line 1: no column has 'Choice 1 of 5' or '1st Choice' in its name (ES&S's form)"
 
 
 @case
@@ -354,7 +354,7 @@ def ess_without_the_id(folder):
 @case
 def ess_a_rank_is_missing(folder):
     path = put(folder, "cvr.csv", "Cast Vote Record,Mayor Choice 1 of 3,Mayor Choice 3 of 3\n1,Ash,Birch\n")
-    return ["ess", path], 2, "cvr.csv: line 1: the columns of Mayor have the ranks 1, 3; 1 to 2, each once, was looked for"
+    return ["ess", path], 2, "cvr.csv: line 1: the columns of Mayor have the ranks 1, 3; expected 1 to 2, each once"
 
 
 @case
@@ -394,7 +394,7 @@ def ess_one_file_without_records(folder):
 @case
 def ess_another_head(folder):
     words = ["ess", put(folder, "a.csv", ESS + "1,P,Ash,Birch\n"), put(folder, "b.csv", "Cast Vote Record\n2\n")]
-    return words, 2, "b.csv: line 1: has another head than the first file"
+    return words, 2, "b.csv: line 1: has a different header from the first file"
 
 
 @case
@@ -404,7 +404,7 @@ def ess_line_cut_off(folder):
 
 @case
 def ess_quote_that_is_never_closed(folder):
-    return ["ess", put(folder, "cvr.csv", ESS + '1,P,"Ash,Birch\n')], 2, "cvr.csv: line 2: no comma-separated line, or cut off: unexpected end of data"
+    return ["ess", put(folder, "cvr.csv", ESS + '1,P,"Ash,Birch\n')], 2, "cvr.csv: line 2: not comma-separated, or truncated: unexpected end of data"
 
 
 @case
@@ -432,26 +432,26 @@ ROWS = [["id", "1st", "2nd"], ["b_1", "Ash", "Birch"], ["b_2", "Birch", "Ash"]]
 
 @case
 def workbook_with_merged_cells(folder):
-    told = "cvr.xlsx: sheet1.xml: cells B2:C2 are merged; part them, or save the sheet of the records as CSV (UTF-8)"
+    told = "cvr.xlsx: sheet1.xml: cells B2:C2 are merged; split them, or save the sheet of the records as CSV (UTF-8)"
     return ["plain", workbook(folder, ROWS, lambda book: book.active.merge_cells("B2:C2"))], 2, told
 
 
 @case
 def workbook_with_several_sheets(folder):
     words = ["plain", workbook(folder, ROWS, lambda book: book.create_sheet("Notes"))]
-    return words, 2, "cvr.xlsx: has several sheets; --sheet names one of: Sheet; Notes"
+    return words, 2, "cvr.xlsx: has several sheets; name one with --sheet: Sheet; Notes"
 
 
 @case
 def workbook_with_a_formula(folder):
     path = workbook(folder, [*ROWS, ["b_3", "=B2", "Ash"]])
-    return ["plain", path], 2, "cvr.xlsx: sheet Sheet, row 4: cell B4: is =B2, and a text or a number was looked for"
+    return ["plain", path], 2, "cvr.xlsx: sheet Sheet, row 4: cell B4: is =B2; expected a text or a number"
 
 
 @case
 def workbook_with_a_part_of_a_number(folder):
     path = workbook(folder, [*ROWS, [1.5, "Birch", "Ash"]])
-    return ["plain", path], 2, "cvr.xlsx: sheet Sheet, row 4: cell A4: is 1.5, and a whole number or a text was looked for"
+    return ["plain", path], 2, "cvr.xlsx: sheet Sheet, row 4: cell A4: is 1.5; expected a whole number or a text"
 
 
 @case
@@ -459,7 +459,7 @@ def workbook_cut_off(folder):
     path = workbook(folder, ROWS)
     with open(path, "r+b") as file:
         file.truncate(os.path.getsize(path) // 2)
-    return ["plain", path], 2, "cvr.xlsx: no zip, or cut off: File is not a zip file"
+    return ["plain", path], 2, "cvr.xlsx: not a zip, or truncated: File is not a zip file"
 
 
 @case
@@ -467,13 +467,13 @@ def workbook_that_is_none(folder):
     path = os.path.join(folder, "cvr.xlsx")
     with zipfile.ZipFile(path, "w") as archive:
         archive.writestr("a.txt", "a")
-    return ["plain", path], 2, "cvr.xlsx: no workbook: \"There is no item named '[Content_Types].xml' in the archive\""
+    return ["plain", path], 2, "cvr.xlsx: not a workbook: \"There is no item named '[Content_Types].xml' in the archive\""
 
 
 @case
 def plain_of_another_form(folder):
     path = put(folder, "a.csv", "id,first,second\nb_1,Ash,Birch\n")
-    return ["plain", path], 2, "a.csv: line 1: no column is called 1st or 1, 2nd or 2, .., which were looked for (the plain form: id, 1st, 2nd, ..)"
+    return ["plain", path], 2, "a.csv: line 1: no column is called 1st or 1, 2nd or 2, .. (the plain form: id, 1st, 2nd, ..)"
 
 
 @case
@@ -521,14 +521,14 @@ def preflib(folder, *changes):
 
 @case
 def preflib_of_before_2022(folder):
-    told = ("a.soi: line 1: '# DATA TYPE: soi' or another of soc, soi, toc, toi was looked for in the lines at the head (PrefLib's form since 2022; files of "
+    told = ("a.soi: line 1: expected '# DATA TYPE: soi' or another of soc, soi, toc, toi in the header lines (PrefLib's form since 2022; files of "
             "before begin with a number)")
     return ["preflib", put(folder, "a.soi", "2\n1,Ash\n2,Birch\n1,1,1\n1,1,2\n")], 2, told
 
 
 @case
 def preflib_of_another_type(folder):
-    return preflib(folder, ("TYPE: soi", "TYPE: cat")), 2, "a.soi: line 2: the data type is cat; one of soc, soi, toc, toi was looked for"
+    return preflib(folder, ("TYPE: soi", "TYPE: cat")), 2, "a.soi: line 2: the data type is cat; expected one of soc, soi, toc, toi"
 
 
 @case
@@ -543,7 +543,7 @@ def preflib_names_that_look_alike(folder):
 
 @case
 def preflib_another_alternative(folder):
-    return preflib(folder, ("2: 1,2", "2: 1,3")), 2, "a.soi: line 8: 3 is no alternative"
+    return preflib(folder, ("2: 1,2", "2: 1,3")), 2, "a.soi: line 8: 3 isn't an alternative"
 
 
 @case
@@ -716,7 +716,7 @@ ONE, TWO = ["1", "4", "1", "1", "4-1-1", "1", "0", "0", "1"], ["2", "4", "1", "2
 
 @case
 def dominion_csv_of_another_version(folder):
-    return by_columns(folder, ONE, version="4.1"), 2, "a.csv: line 1: the version, the second field, is 4.1; a Version 5 was looked for, such as 5.10.50.85 (Dominion's CSV)"
+    return by_columns(folder, ONE, version="4.1"), 2, "a.csv: line 1: the version, the second field, is 4.1; expected a Version 5, such as 5.10.50.85 (Dominion's CSV)"
 
 
 @case
@@ -755,7 +755,7 @@ def dominion_csv_short_line(folder):
 
 @case
 def dominion_csv_two_in_a_cell(folder):
-    told = "a.csv: line 5: contest Mayor, column 6: is 2, where 1 or 0 was looked for, or nothing where the card doesn't have the contest"
+    told = "a.csv: line 5: contest Mayor, column 6: is 2; expected 1, 0, or nothing if the card doesn't have the contest"
     return by_columns(folder, [*ONE[:5], "2", "0", "0", "1"]), 2, told
 
 
@@ -784,14 +784,14 @@ def dominion_csv_two_cards_of_one_id(folder):
 @case
 def dominion_csv_of_two_winners(folder):
     words = [*by_columns(folder, ONE, title="Mayor (Number of positions=2, Number of ranks=2)"), "--contest", "Mayor"]
-    return words, 2, "a.csv: contest Mayor elects 2, so it is no contest of instant runoff; --as pairs audits it by pairs of candidates"
+    return words, 2, "a.csv: contest Mayor elects 2, so it isn't an instant-runoff contest; --as pairs audits it by pairs of candidates"
 
 
 @case
 def dominion_csv_another_head(folder):
     words = by_columns(folder, ONE)
     other = put(folder, "b.csv", open(os.path.join(folder, "a.csv")).read().replace("Birch", "Cedar"))
-    return [*words, other], 2, "b.csv: has another head than the first file"
+    return [*words, other], 2, "b.csv: has a different header from the first file"
 
 
 # ---- Hart
@@ -817,7 +817,7 @@ BOTH = option_of("Ash", "10") + option_of("Birch", "01")
 @case
 def hart_without_files(folder):
     put(folder, "a.txt", "")
-    return ["hart", folder], 2, "in: has no .xml file; a file for each card was looked for (Hart's CVR folders)"
+    return ["hart", folder], 2, "in: has no .xml file; expected a file for each card (Hart's CVR folders)"
 
 
 @case
@@ -832,7 +832,7 @@ def hart_missing_folder_beside_a_good_one(folder):
 
 @case
 def hart_empty_folder_beside_a_good_one(folder):
-    return [*hart(folder, card_of(1, BOTH)), empty(folder)], 2, "empty: has no .xml file; a file for each card was looked for (Hart's CVR folders)"
+    return [*hart(folder, card_of(1, BOTH)), empty(folder)], 2, "empty: has no .xml file; expected a file for each card (Hart's CVR folders)"
 
 
 @case
@@ -843,17 +843,17 @@ def hart_candidate_of_two_names(folder):
 
 @case
 def hart_of_another_root(folder):
-    return hart(folder, card_of(1, BOTH, root="Ballot")), 2, "1.xml: is a Ballot; a Cvr was looked for (Hart's form)"
+    return hart(folder, card_of(1, BOTH, root="Ballot")), 2, "1.xml: is a Ballot; expected a Cvr (Hart's form)"
 
 
 @case
 def hart_cut_off(folder):
-    return hart(folder, card_of(1, BOTH), card_of(2, BOTH)[:-4]), 2, "2.xml: no XML, or cut off: unclosed token: line 1, column 280"
+    return hart(folder, card_of(1, BOTH), card_of(2, BOTH)[:-4]), 2, "2.xml: not XML, or truncated: unclosed token: line 1, column 280"
 
 
 @case
 def hart_value_that_is_none(folder):
-    return hart(folder, card_of(1, option_of("Ash", "12"))), 2, "1.xml: contest m: the Value of Ash is 12; a 0 or 1 for each rank was looked for"
+    return hart(folder, card_of(1, option_of("Ash", "12"))), 2, "1.xml: contest m: the Value of Ash is 12; expected a 0 or 1 for each rank"
 
 
 @case
@@ -886,7 +886,7 @@ def hart_two_cards_of_one_id(folder):
 @case
 def hart_no_ranked_contest(folder):
     words = hart(folder, card_of(1, option_of("Ash", "1")))
-    return words, 2, "in: no contest to convert; --contest names one of: m (Mayor): isn't ranked (each Value is one digit)"
+    return words, 2, "in: no contest to convert; name one with --contest: m (Mayor): isn't ranked (each Value is one digit)"
 
 
 @case
@@ -907,7 +907,7 @@ def clear_ballot(folder, *rows, head=CLEAR):
 @case
 def clear_ballot_without_a_contest(folder):
     words = clear_ballot(folder, "1,b,1,1,,,1,2")[:2]
-    return words, 2, "a.csv: no contest to convert; --contest names one of: Mayor: isn't said to be ranked (Clear Ballot's form doesn't say it of any)"
+    return words, 2, "a.csv: no contest to convert; name one with --contest: Mayor: isn't said to be ranked (Clear Ballot's form doesn't say it of any)"
 
 
 @case
@@ -918,7 +918,7 @@ def clear_ballot_names_that_look_alike(folder):
 
 @case
 def clear_ballot_of_another_form(folder):
-    return clear_ballot(folder, head="id,1st\n"), 2, "a.csv: line 1: no column begins with Choice_, which was looked for (Clear Ballot's form)"
+    return clear_ballot(folder, head="id,1st\n"), 2, "a.csv: line 1: no column begins with Choice_ (Clear Ballot's form)"
 
 
 @case
@@ -936,7 +936,7 @@ def clear_ballot_row_that_is_missing(folder):
 
 @case
 def clear_ballot_cell_that_is_no_rank(folder):
-    told = "a.csv: line 2: contest Mayor, column 7: is 1;2, where a number from 0 on was looked for, or nothing where the card doesn't have the contest"
+    told = "a.csv: line 2: contest Mayor, column 7: is 1;2; expected a number from 0 up, or nothing if the card doesn't have the contest"
     return clear_ballot(folder, "1,b,1,1,,,1;2,2"), 2, told
 
 
@@ -949,7 +949,7 @@ def clear_ballot_plurality_of_ranks(folder):
 @case
 def clear_ballot_plurality_without_a_contest(folder):
     words = [*clear_ballot(folder, "1,b,1,1,,,1,0")[:2], "--as", "plurality"]
-    return words, 2, "a.csv: no contest to convert; --contest names one of: Mayor: isn't said to be ranked (Clear Ballot's form doesn't say it of any)"
+    return words, 2, "a.csv: no contest to convert; name one with --contest: Mayor: isn't said to be ranked (Clear Ballot's form doesn't say it of any)"
 
 
 @case
@@ -966,30 +966,30 @@ def xml(folder, body, root="CastVoteRecordReport"):
 
 @case
 def nist_xml_of_another_root(folder):
-    return xml(folder, "<Version>1.0.0</Version>", "Report"), 2, "a.xml: the root is Report; CastVoteRecordReport was looked for (NIST SP 1500-103)"
+    return xml(folder, "<Version>1.0.0</Version>", "Report"), 2, "a.xml: the root is Report; expected CastVoteRecordReport (NIST SP 1500-103)"
 
 
 @case
 def nist_xml_without_version(folder):
-    return xml(folder, ""), 2, "a.xml: Version is missing; 1.0.0 was looked for (NIST SP 1500-103)"
+    return xml(folder, ""), 2, "a.xml: Version is missing; expected 1.0.0 (NIST SP 1500-103)"
 
 
 @case
 def nist_xml_cut_off(folder):
-    return ["nist", put(folder, "a.xml", "<CastVoteRecordReport><Version>1.0")], 2, "a.xml: no XML, or cut off: no element found: line 1, column 34"
+    return ["nist", put(folder, "a.xml", "<CastVoteRecordReport><Version>1.0")], 2, "a.xml: not XML, or truncated: no element found: line 1, column 34"
 
 
 @case
 def nist_xml_entity_of_another_file(folder):
     text = '<!DOCTYPE x [<!ENTITY a SYSTEM "/etc/hostname">]><CastVoteRecordReport><Version>&a;</Version></CastVoteRecordReport>'
-    return ["nist", put(folder, "a.xml", text)], 2, "a.xml: no XML, or cut off: undefined entity &a;: line 1, column 80"
+    return ["nist", put(folder, "a.xml", text)], 2, "a.xml: not XML, or truncated: undefined entity &a;: line 1, column 80"
 
 
 @case
 def nist_xml_entities_that_grow(folder):
     entities = "".join(f'<!ENTITY e{k} "{f"&e{k - 1};" * 10 if k else "x" * 100}">' for k in range(9))
     text = f"<!DOCTYPE x [{entities}]><CastVoteRecordReport><Version>&e8;</Version></CastVoteRecordReport>"
-    told = "a.xml: no XML, or cut off: limit on input amplification factor (from DTD and entities) breached: line 1, column "
+    told = "a.xml: not XML, or truncated: limit on input amplification factor (from DTD and entities) breached: line 1, column "
     return ["nist", put(folder, "a.xml", text)], 2, told + str(text.index("&e8;"))
 
 
@@ -1003,21 +1003,21 @@ def nist_xml_without_elections(folder):
 @case
 def ess_word_that_is_not_known(folder):
     text = "Cast Vote Record,Mayor Choice 1 of 2,Mayor Choice 2 of 2\n1,Ash,Birch\n2,over vote,Birch\n"
-    told = ("a.csv: line 3: rank 1: over vote is like a word for an overvote, an undervote or a write-in, and is none that is known; --word "
+    told = ("a.csv: line 3: rank 1: over vote looks like a word for an overvote, an undervote or a write-in, but isn't a known one; --word "
             "'over vote=overvote' says what it is: overvote, undervote, write-in or candidate")
     return ["ess", put(folder, "a.csv", text)], 2, told
 
 
 @case
 def plain_blank_that_is_not_known(folder):
-    told = ("a.csv: line 2: rank 2: Blank is like a word for an overvote, an undervote or a write-in, and is none that is known; --word 'Blank=overvote' "
+    told = ("a.csv: line 2: rank 2: Blank looks like a word for an overvote, an undervote or a write-in, but isn't a known one; --word 'Blank=overvote' "
             "says what it is: overvote, undervote, write-in or candidate")
     return ["plain", put(folder, "a.csv", "id,1,2\nb_1,Ash,Blank\n")], 2, told
 
 
 @case
 def plain_write_in_with_a_name(folder):
-    told = ("a.csv: line 2: rank 1: Write-in: Jo is like a word for an overvote, an undervote or a write-in, and is none that is known; --word "
+    told = ("a.csv: line 2: rank 1: Write-in: Jo looks like a word for an overvote, an undervote or a write-in, but isn't a known one; --word "
             "'Write-in: Jo=overvote' says what it is: overvote, undervote, write-in or candidate")
     return ["plain", put(folder, "a.csv", "id,1,2\nb_1,Write-in: Jo,Ash\n")], 2, told
 
@@ -1057,7 +1057,7 @@ def a_word_without_a_meaning(folder):
 
 @case
 def preflib_alternative_like_a_word(folder):
-    told = ("a.soi: line 7: over vote is like a word for an overvote, an undervote or a write-in, and is none that is known; --word 'over vote=overvote' "
+    told = ("a.soi: line 7: over vote looks like a word for an overvote, an undervote or a write-in, but isn't a known one; --word 'over vote=overvote' "
             "says what it is: overvote, undervote, write-in or candidate")
     return preflib(folder, ("ALTERNATIVE NAME 2: Birch", "ALTERNATIVE NAME 2: over vote")), 2, told
 
@@ -1072,7 +1072,7 @@ def preflib_order_that_is_not_complete(folder):
 
 @case
 def rctab_of_another_form(folder):
-    return ["rctab", put(folder, "a.csv", "id,first\n1,Ash\n")], 2, "a.csv: line 1: no column is called Rank 1 or rank1, which were looked for (RCTab's form, and the unified one)"
+    return ["rctab", put(folder, "a.csv", "id,first\n1,Ash\n")], 2, "a.csv: line 1: no column is called Rank 1 or rank1 (RCTab's form, and the unified one)"
 
 
 @case
@@ -1089,12 +1089,12 @@ def seen(folder, text, *more, form="seen"):
 
 @case
 def seen_card_twice(folder):
-    return seen(folder, "b_1,ballot,Ash\nb_1,ballot,Ash\n"), 2, "seen.csv: record 2: the card b_1 came before"
+    return seen(folder, "b_1,ballot,Ash\nb_1,ballot,Ash\n"), 2, "seen.csv: record 2: the card b_1 is listed twice"
 
 
 @case
 def seen_nobody_who_is_a_candidate(folder):
-    return seen(folder, "b_1,ballot,ash\n"), 2, "seen.csv: record 1: ash is no candidate of contest Mayor in b.raire"
+    return seen(folder, "b_1,ballot,ash\n"), 2, "seen.csv: record 1: ash isn't a candidate of contest Mayor in b.raire"
 
 
 @case
@@ -1104,7 +1104,7 @@ def seen_without_a_reading(folder):
 
 @case
 def seen_of_a_contest_without_a_reading(folder):
-    return seen(folder, "b_1,Mayor,\n"), 2, "seen.csv: record 1: the card b_1 has no reading: neither ballot, marks nor missing stands after it"
+    return seen(folder, "b_1,Mayor,\n"), 2, "seen.csv: record 1: the card b_1 has no reading: neither ballot, marks nor missing comes after it"
 
 
 @case
@@ -1114,13 +1114,13 @@ def seen_quote_that_is_not_closed(folder):
 
 @case
 def marks_without_a_candidate(folder):
-    told = "seen.csv: record 1: after marks a rank and a candidate were looked for, again and again; there are 3 fields"
+    told = "seen.csv: record 1: after marks, expected pairs of a rank and a candidate; there are 3 fields"
     return seen(folder, "b_1,marks,1,Ash,2\n", form="marks"), 2, told
 
 
 @case
 def marks_of_no_rank(folder):
-    return seen(folder, "b_1,marks,0,Ash\n", form="marks"), 2, "seen.csv: record 1: 0 is no rank"
+    return seen(folder, "b_1,marks,0,Ash\n", form="marks"), 2, "seen.csv: record 1: 0 isn't a rank"
 
 
 @case
@@ -1136,13 +1136,13 @@ def marks_without_ballots(folder):
 
 @case
 def without_somebody_else(folder):
-    return seen(folder, "b_1,ballot,Ash\n", "--without", "Cedar"), 2, "seen.csv: --without names Cedar, who is no candidate; there are: Ash; Birch"
+    return seen(folder, "b_1,ballot,Ash\n", "--without", "Cedar"), 2, "seen.csv: --without names Cedar, who isn't a candidate; there are: Ash; Birch"
 
 
 @case
 def skips_of_plurality(folder):
     words = [*dominion(folder, session(1)), "--as", "plurality", "--skips", "one"]
-    return words, 1, "--skips has no meaning with --as plurality; ./raire help convert lists its words"
+    return words, 1, "--skips doesn't apply with --as plurality; ./raire help convert lists its words"
 
 
 # ---- words
@@ -1150,7 +1150,7 @@ def skips_of_plurality(folder):
 @case
 def an_option_of_another_form(folder):
     words = [*preflib(folder), "--sheet", "Sheet1"]
-    return words, 1, "--sheet has no meaning for preflib; ./raire help convert lists its words"
+    return words, 1, "--sheet doesn't apply to preflib; ./raire help convert lists its words"
 
 
 @case

@@ -25,12 +25,14 @@ COMMANDS = {
     "ballots.raire": [
         ["tabulate", "ballots.raire"], ["open", "ballots.raire", "whole.csv", "whole.json", "--seed=1"],
         ["plurality", "ballots.raire", "whole.csv", "--seed=1"], ["contests", "ballots.raire", "whole.csv", "whole_by.csv", "--seed=1", "--draws=5"],
+        ["adopt", "ballots.raire", "whole_claims.json"],
     ],
     "assertions.json": [
         ["check", "whole.raire", "assertions.json"], ["trim", "whole.raire", "assertions.json"], ["plan", "whole.csv", "assertions.json"],
-        ["poll", "whole.csv", "assertions.json", "whole_seen.csv", "--seed=1", "--draws=5"],
+        ["poll", "whole.csv", "assertions.json", "whole_seen.csv", "--seed=1", "--draws=5"], ["adopt", "whole.raire", "assertions.json"],
     ],
     "planned.json": [["check", "whole.raire", "planned.json"], ["trim", "whole.raire", "planned.json"], ["plan", "whole.csv", "planned.json"]],
+    "claims.json": [["adopt", "whole.raire", "claims.json"]],
     "manifest.csv": [
         ["sample", "manifest.csv", "--seed=1", "--draws=5"], ["open", "whole.raire", "manifest.csv", "whole.json", "--seed=1"],
         ["poll", "manifest.csv", "whole.json", "whole_seen.csv", "--seed=1", "--draws=5"], ["plurality", "whole.raire", "manifest.csv", "--seed=1"],
@@ -86,6 +88,13 @@ def damaged(draws, data, words):
     return data
 
 
+def claims_of(text):
+    """What an assertion file claims, without a word on margins."""
+    found = json.loads(text)
+    claims = [{name: value for name, value in claim.items() if name != "margin"} for claim in found["assertions"]]
+    return json.dumps({"assertions": claims, **{name: found[name] for name in ("candidates", "contest", "winner")}})
+
+
 def whole_files(draws):
     """Audits with a session of one round each, and their files once more under names that nothing damages."""
     while True:
@@ -95,12 +104,14 @@ def whole_files(draws):
         if status == opened[0] == 0:
             break
     audits.write("assertions.json", text)
+    audits.write("claims.json", claims_of(text))
     cards = json.loads(text)["records"] + draws.below(100)
     audits.write("planned.json", plain_audit.run(["search", "ballots.raire", f"--cards={cards}", "--limit=300000"])[1])
     with open("seen.csv") as file:
         audits.write("seen_by.csv", "".join(line.replace(",", ",9,", 1) for line in file))
     names = {
         "ballots.raire": "whole.raire", "manifest.csv": "whole.csv", "assertions.json": "whole.json", "seen.csv": "whole_seen.csv", "seen_by.csv": "whole_by.csv",
+        "claims.json": "whole_claims.json",
     }
     for name, other in names.items():
         with open(name) as file:

@@ -131,6 +131,7 @@ def exported(tried, place):
             told = f"{len(lines) - len(ticked)} of {len(lines)} lines aren’t checked off"
             page = visitor.do("account", [("line", line) for line in ticked])
             tried.see("an account that isn't confirmed stays open", told in page.text, page.words()[:300])
+            tried.see("and keeps its check marks", page.text.count(" checked>") == len(ticked), page.text.count(" checked>"))
         tried.see("an account is confirmed line by line", 'class="typed"' in visitor.do("account", [("line", line) for line in lines]).text)
         visitor.do("contest", {"audit": "comparison"})
         visitor.do("cards", {"cast": "479"}, [("manifest", read(os.path.join(EXAMPLES, "town", "manifest.csv")))])
@@ -174,8 +175,10 @@ def named(tried, place):
         are_called = names and all(name.strip('"') in page.words() for name in names)
         tried.see("candidates have their names", 'class="typed"' in page.text and are_called, page.words()[:600])
         page = visitor.post("/step/records/back")
-        page = visitor.do("records", {"way": "export", "format": "dominion", **RULES}, [("exports", b"{}")])
+        page = visitor.do("records", {"way": "export", "format": "dominion", **RULES, "skips": "two", "contest": "Mayor"}, [("exports", b"{}")])
         tried.see("another file than a zip is told", "it is text, and a zip is needed" in page.words(), page.words()[:300])
+        is_kept = all(kept in page.text for kept in ('value="export" checked', "<details open>", 'value="two" selected', ">\nMayor</textarea>"))
+        tried.see("and what was filled in with it is still there", is_kept, page.words()[:900])
 
 
 def forms_of_exports(tried, place):
@@ -222,7 +225,7 @@ def sheet_of_reader_b(tried, visitor, walk):
     cards = {row.rstrip(","): walk.seen[row.rstrip(",")][None] for row in rows}
     lines = [f"{card},missing" if ranked is None else ",".join([card, "ballot", *ranked]) for card, ranked in cards.items()]
     for bad, told in (
-        (["x_1,ballot"], "x_1 is no card of this round"), (["x"], "is no card"), ([lines[0] + ",Nobody"], "Nobody is no candidate"),
+        (["x_1,ballot"], "x_1 isn't a card of this round"), (["x"], "isn't a card"), ([lines[0] + ",Nobody"], "Nobody isn't a candidate"),
         ([lines[0]] * 2, "is listed twice"), (rows, "This file has no reading"), ([""], "This file has no reading"), ([rows[0] + "torn"], "either ballot and the ranked candidates"), (["x" * 200_000], "not a comma-separated file"),
     ):
         visitor.go("/read/1/B")
@@ -254,6 +257,7 @@ def county_by_files(tried, place):
     with Desk(path, port) as desk:
         visitor = Visitor(desk)
         go_through(visitor, walk, until="read1")
+        tried.see("a sheet without contests isn't offered", "a sheet to fill in" not in visitor.go("/step/fetch1").words())
         terms = " ".join(read(os.path.join(path, "terms.txt"), "r").split())
         for told in (
             "Contests Mayor; Sheriff; Council ward 1; School board seat 4; Library levy", "Left out Council ward 2 (it is tied)",
@@ -267,9 +271,9 @@ def county_by_files(tried, place):
             visitor.go(f"/read/1/{reader}")
             visitor.post(f"/read/1/{reader}/begin", {"person": person})
             for bad, told in (
-                (seen[:1], f"{first} has no reading for Sheriff"), ([seen[0].replace("Mayor", "Mayer")], "Mayer is no contest of this audit"), (seen[:1] * 2, "twice for Mayor"),
-                ([f"{first},Mayor,missing", *seen[1:5]], "A card that can’t be found is missing in each"), (["x_1,Mayor,ballot"], "x_1 is no card of this round"),
-                ([first], "nothing is no contest"), ([f"{first},Mayor,"], "has no reading: nothing is filled in"),
+                (seen[:1], f"{first} has no reading for Sheriff"), ([seen[0].replace("Mayor", "Mayer")], "Mayer isn't a contest of this audit"), (seen[:1] * 2, "twice for Mayor"),
+                ([f"{first},Mayor,missing", *seen[1:5]], "A card that can’t be found is missing in each"), (["x_1,Mayor,ballot"], "x_1 isn't a card of this round"),
+                ([first], "nothing isn't a contest"), ([f"{first},Mayor,"], "has no reading: nothing is filled in"),
             ):
                 visitor.go(f"/read/1/{reader}")
                 page = visitor.post(f"/read/1/{reader}/sheet", {}, [("readings", "\n".join(bad).encode())])
@@ -278,6 +282,8 @@ def county_by_files(tried, place):
             page = visitor.post(f"/read/1/{reader}/sheet", {}, [("readings", "\n".join(seen).encode())])
             tried.see("a seen file gives all readings of a county", page.path == "/step/read1" and f"{len(cards)} of {len(cards)} cards read" in page.words(), page.words()[:400])
         tried.see("and both agree", 'class="typed"' in visitor.do("read1").text, visitor.page.words()[:400])
+        go_through(visitor, walk, until="end")
+        tried.see("that contests are left is told", "Not every contest is signed off." in visitor.go("/step/end").words(), visitor.page.words()[:400])
         go_through(visitor, walk)
     tried.see("the county is that of README", files_in(path).get("seen1.csv", b"").decode().splitlines() == in_order(seen, path))
 
@@ -343,6 +349,9 @@ def observers(tried, place, data):
     damaged_bundles(tried, place, data)
     os.unlink(os.path.join(whole, "seen1.csv"))
     tried.see("a file that is missing is told", looked_at(whole)[1]["seen1.csv"] == "is missing")
+    os.unlink(os.path.join(whole, "seen1_A.csv"))
+    said = looked_at(whole)[1]["seen.csv"]
+    tried.see("what isn't made again for want of a file names it", said == "isn't made again: seen1.csv: No such file or directory", said)
     no_desks(tried)
 
 
@@ -369,7 +378,7 @@ def damaged_bundles(tried, place, data):
         with open(path, "wb") as file:
             file.write(damaged)
         status, said, err = looked_at(path)
-        is_told = err.startswith("desk: ") and err.count("\n") == 1 and "bundle of a desk" in err
+        is_told = err.startswith("desk: ") and err.count("\n") == 1 and "a desk's bundle" in err
         tried.see(f"a bundle with {what} is told", (status, said) == (7, {}) and is_told, (status, said, err))
     rest = random.Random(7).sample(range(len(data)), 60)
     for at in {*header, *trailer, *rest}:
@@ -635,7 +644,7 @@ def numbers(tried):
         ("0480", 480), ("4 805", None), ("4.805", None), ("", None), ("2,000,000,000", None), ("1,000,000,000", 1_000_000_000),
     ):
         tried.see(f"{text!r} is {wanted}", judged(lambda form: form.number("x", "The number", 1, 1_000_000_000), text)[0] == wanted, text)
-    tried.see("how commas stand is told", "Commas stand only between thousands" in judged(lambda form: form.number("x", "The number", 1, 10), "480,5")[1])
+    tried.see("how commas stand is told", "Use commas only between thousands" in judged(lambda form: form.number("x", "The number", 1, 10), "480,5")[1])
     for text, wanted in (("5", 50_000), ("5.5", 55_000), ("2.5 %", 25_000), ("5,5", None), ("5,", None), ("1e1", 100_000)):
         tried.see(f"{text!r} percent is {wanted}", judged(lambda form: form.millionths("x", "The risk limit"), text)[0] == wanted, text)
     tried.see("a point is asked for", "Write 5.5, with a point" in judged(lambda form: form.millionths("x", "The risk limit"), "5,5")[1])
@@ -674,6 +683,14 @@ def full_counts(tried, place):
         go_through(visitor, walk, until="terms")
         page = visitor.post("/step/terms/preview", {"rounds": "", "how": HOW})
         tried.see("draws that are missing are told", "The list of the numbers of draws is missing." in page.words(), page.words()[:300])
+        page = visitor.post("/step/terms/preview", {"rounds": "37", "how": "dice, in publik", "change": "yes"})
+        is_kept = 'value="37"' in page.text and 'value="dice, in publik"' in page.text and "Preview the terms" in page.text
+        tried.see("terms that are changed again are as they were typed", page.status == 200 and is_kept, page.words()[:300])
+        for address, wanted in (("/step/terms/preview", "/step/terms"), ("/step/records/do", "/step/records"), ("/step/plan/try", "/step/plan"), ("/step/terms/back", "/step/terms")):
+            answer = visitor.ask("GET", address)
+            tried.see(f"{address} leads to its page", (answer.status, answer.headers.get("Location")) == (303, wanted), answer.status)
+        for address in ("/step/nothing/do", "/step/terms/nothing", "/read/1/A/take"):
+            tried.see(f"{address} is no page", visitor.ask("GET", address).status == 404)
         go_through(visitor, walk, until="fetch1")
         visitor.go("/step/fetch1")
         before = files_in(path)
@@ -686,7 +703,10 @@ def full_counts(tried, place):
         tried.see("a number that is none is told", page.status == 400 and "is a whole number" in page.words(), page.words()[:300])
         go_through(visitor, walk, until="read1")
         tried.see("as many cards as were said", len(read(os.path.join(path, "cards1.csv")).splitlines()) - 1 == int(cards), cards)
+        for address in ("/read/1/A", "/read/1/A/take", "/read/1/A/begin", "/read/1/A/sheet"):
+            tried.see(f"{address} leads to a reader's page", visitor.go(address).path == "/read/1/A", visitor.page.path)
         go_through(visitor, walk, until="count")
+        tried.see("that the terms have no further draws is told", "The terms have no further draws: after them comes a full count." in visitor.go("/step/round1").words())
         counted = walk.data("counted.raire")
         for data, told in (
             (read(os.path.join(EXAMPLES, "town", "ballots.raire")), "&#34;Village mayor&#34; is none of them"),

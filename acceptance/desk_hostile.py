@@ -362,6 +362,7 @@ def main():
             os.chmod(place, 0o755)
             test(tried, own)
     tried.see("200 hostile requests at least", tried.asked >= 200, tried.asked)
+    print(f"{tried.asked} hostile requests were sent")
     print(f"{tried.count - tried.failed} things of a desk under attack as they should be, {tried.failed} not")
     sys.exit(1 if tried.failed else 0)
 

@@ -179,7 +179,7 @@ def fill_in(clerk, walk, fields, files):
             clerk.fill(name, str(value))
 
 
-def read_by_clicks(clerk, walk, number, reader):
+def read_by_clicks(clerk, walk, number, reader, goes_back=False):
     clerk.follow(f"a[href='/read/{number}/{reader}']")
     clerk.click("#person")
     clerk.type(READERS[reader])
@@ -198,8 +198,26 @@ def read_by_clicks(clerk, walk, number, reader):
             if not ranked:
                 clerk.click(f"input[name='way_{contest}'][value='nobody']")
         clerk.follow("button.take")
+        if goes_back and clerk.path().startswith("/read/"):
+            see_cards_apart(clerk, card)
+            goes_back = False
 
 
+def see_cards_apart(clerk, card):
+    """Goes back to a card that was read, and on to the next one: each has its own marks, and not those that the browser remembers of another."""
+    following, own = clerk.value(CARD), f"{clerk.path()}?card={card}"
+    clerk.opened.go_back()
+    clerk.wait("document.querySelector('form.entry') !== null")
+    shown = clerk.value(CARD)
+    clerk.tried.see("a card that is gone back to is itself, and read", shown[0] == card and len(shown[1]) > 0, shown)
+    clerk.go(own)
+    clerk.tried.see("with the marks that were saved", shown == clerk.value(CARD), (shown, clerk.value(CARD)))
+    clerk.go(clerk.path())
+    clerk.tried.see("the next card has no marks", clerk.value(CARD) == following and not following[1], (following, clerk.value(CARD)))
+
+
+CARD = """[document.querySelector("input[name=card]").value,
+    [...document.querySelectorAll("form.entry tr:not(.none) input:checked")].map((each) => each.name + " " + each.value)]"""
 CONTESTS = """[...document.querySelectorAll("[data-contest]")].map((each) => [each.dataset.contest, each.querySelector("legend").textContent,
     [...each.querySelectorAll("tbody tr:not(.none) th")].map((th) => th.lastChild.textContent.trim())])"""
 
@@ -273,7 +291,7 @@ def by_two_tabs(clerk, walk, path):
         if step.startswith("read"):
             clerk.go(f"/step/{step}")
             for reader in READERS:
-                read_by_clicks(clerk, walk, int(step[4:]), reader)
+                read_by_clicks(clerk, walk, int(step[4:]), reader, goes_back=True)
         for tab in reversed(tabs):
             clerk.opened.turn_to(tab)
             clerk.go(f"/step/{step}")
@@ -290,6 +308,8 @@ def by_two_tabs(clerk, walk, path):
         while pages < MOST_PAGES_BACK and clerk.opened.go_back():
             pages += 1
             clerk.wait("document.body !== null")
+            is_page = clerk.value("location.protocol") != "chrome-error:"  # which asks whether a form is sent again
+            clerk.tried.see(f"{step}: there is a page {pages} pages back", is_page, clerk.value("document.body.innerText")[:300])
             if step not in REPLACED and clerk.value("document.querySelector(\"main form[action$='/do'] button, main form[action$='/preview'] button\") !== null"):
                 see_outdated(clerk, f"{step}, {pages} pages back")
         after = files_in(path)
@@ -320,7 +340,7 @@ def refusals(clerk, place):
     clerk.give("ballots", path)
     clerk.follow("main .buttons button")
     said = clerk.text()
-    is_told = "B8 at 3" in said and '"ANN" is no candidate' in said and "nothing was changed" in said
+    is_told = "B8 at 3" in said and '"ANN" isn\'t a candidate' in said and "nothing was changed" in said
     clerk.tried.see("a refused file is told with its record", is_told, said[:600])
     clerk.look("refused")
     clerk.leave(clerk.opened.reload)

@@ -56,51 +56,51 @@ OF_BALLOTS = [
     ("65\n", "B1", 'It begins with "65"'),
     ("PK\x03\x04\n", "B1", r'It begins with "PK\x03\x04"'),
     (SEEN, "B1", 'It begins with "b_1,ballot,Ann", as a file of seen cards does'),
-    ("1\nContest;9;2\n", "B2", '"Contest;9;2" is in the place of "Contest"; its semicolons have to be commas. Record 2, line 2: Contest;9;2'),
-    ("1\ncontest,9,2,Ann,Ben\n", "B2", '"contest" is in the place of "Contest". Record 2, line 2: contest,9,2,Ann,Ben'),
+    ("1\nContest;9;2\n", "B2", '"Contest;9;2" is in place of "Contest"; its semicolons have to be commas. Record 2, line 2: Contest;9;2'),
+    ("1\ncontest,9,2,Ann,Ben\n", "B2", '"contest" is in place of "Contest". Record 2, line 2: contest,9,2,Ann,Ben'),
     ("2\n\nContest,9,2,Ann,Ben\n", "B2", "The file ends before record 3"),
-    ("2\nContest,9,2,Ann,Ben\nContest,9,2,Ann,Ben\n", "B2", '"9" came before. Record 3, line 3: Contest,9,2,Ann,Ben'),
+    ("2\nContest,9,2,Ann,Ben\nContest,9,2,Ann,Ben\n", "B2", '"9" is repeated. Record 3, line 3: Contest,9,2,Ann,Ben'),
     ("1\nContest,9,3,Ann,Ben\n", "B3", "It says 3 candidates, and 2 ids follow. Record 2, line 2: Contest,9,3,Ann,Ben"),
     ("1\nContest,9,2,Ann\n", "B3", "It says 2 candidates, and 1 id follows. Record 2, line 2: Contest,9,2,Ann"),
     ("1\nContest,9,1,Ann\n", "B3", "It says 1 candidate. Record 2, line 2: Contest,9,1,Ann"),
-    ("1\nContest,9,two,Ann,Ben\n", "B3", '"two" is no number of candidates. Record 2, line 2: Contest,9,two,Ann,Ben'),
-    ("1\nContest,9,2,Zoë,Ben\n", "B4", '"Zoë" is no id; "Zoe" would be one. Record 2, line 2: Contest,9,2,Zoë,Ben'),
-    ('1\nContest,9,2,"Lee, Ann",Ben\n', "B4", '"Lee, Ann" is no id; "Lee Ann" would be one. Record 2, line 2: Contest,9,2,"Lee, Ann",Ben'),
+    ("1\nContest,9,two,Ann,Ben\n", "B3", '"two" isn\'t a number of candidates. Record 2, line 2: Contest,9,two,Ann,Ben'),
+    ("1\nContest,9,2,Zoë,Ben\n", "B4", '"Zoë" isn\'t an id; "Zoe" would be one. Record 2, line 2: Contest,9,2,Zoë,Ben'),
+    ('1\nContest,9,2,"Lee, Ann",Ben\n', "B4", '"Lee, Ann" isn\'t an id; "Lee Ann" would be one. Record 2, line 2: Contest,9,2,"Lee, Ann",Ben'),
     ("1\nContest,9,2,Ann,Ann\n", "B4", '"Ann" is repeated. Record 2, line 2: Contest,9,2,Ann,Ann'),
     (HEAD + "9,,Ann\n", "B4", "The id is empty. Record 3, line 3: 9,,Ann"),
-    (HEAD + f"9,{'b' * 65},Ann\n", "B4", f'"{"b" * 65}" has 65 bytes, and 64 are the most. Record 3, line 3: 9,{"b" * 65},Ann'),
-    (HEAD + "9,b\x01,Ann\n", "B4", r'"b\x01" is no id. Record 3, line 3: 9,b\x01,Ann'),
-    (HEAD + "9,Zo\xeb\x7f,Ann\n", "B4", r'"Zoë\x7f" is no id. Record 3, line 3: 9,Zoë\x7f,Ann'),
+    (HEAD + f"9,{'b' * 65},Ann\n", "B4", f'"{"b" * 65}" has 65 bytes; the limit is 64. Record 3, line 3: 9,{"b" * 65},Ann'),
+    (HEAD + "9,b\x01,Ann\n", "B4", "\"b\\x01\" isn't an id. Record 3, line 3: 9,b\\x01,Ann"),
+    (HEAD + "9,Zo\xeb\x7f,Ann\n", "B4", "\"Zoë\\x7f\" isn't an id. Record 3, line 3: 9,Zoë\\x7f,Ann"),
     (HEAD + '9,b_1,Ann\n9,"b_2,Ben\n9,b_3,Ann\n', "B4",
-     '"b_2,Ben\\n9,b_3,Ann" is no id. A quote in line 4 isn\'t closed in that line. Record 4, line 4: 9,"b_2,Ben\\n9,b_3,Ann'),
-    (HEAD + '9,"b\r1",Ann\n', "B4", '"b\\r1" is no id. A quote in line 3 isn\'t closed in that line. Record 3, line 3: 9,"b\\r1",Ann'),
-    ("2\nContest,9,2,Ann,Ben\nContest,10,2,Cy,Di\n", "B5", 'The file has the contests "9", "10". --contest says which is meant'),
+     '"b_2,Ben\\n9,b_3,Ann" isn\'t an id. A quote in line 4 isn\'t closed in that line. Record 4, line 4: 9,"b_2,Ben\\n9,b_3,Ann'),
+    (HEAD + '9,"b\r1",Ann\n', "B4", '"b\\r1" isn\'t an id. A quote in line 3 isn\'t closed in that line. Record 3, line 3: 9,"b\\r1",Ann'),
+    ("2\nContest,9,2,Ann,Ben\nContest,10,2,Cy,Di\n", "B5", 'The file has the contests "9", "10". Name one with --contest'),
     (HEAD + "\n  \n9\n", "B6", "Record 3, line 5: 9"),
     (HEAD + '9,b_1,Ann\n"9,b_2,Ben\n9,b_3,Ann\n', "B6", 'A quote in line 4 isn\'t closed in that line. Record 4, line 4: "9,b_2,Ben\\n9,b_3,Ann'),
-    (HEAD + "90,b_1,Ann\n", "B7", '"90" is no contest; the file has "9". Record 3, line 3: 90,b_1,Ann'),
+    (HEAD + "90,b_1,Ann\n", "B7", '"90" isn\'t a contest; the file has "9". Record 3, line 3: 90,b_1,Ann'),
     (HEAD + "Contest,8,2,Cy,Di\n", "B7", "The number of contests in the first record, 1, is too small. Record 3, line 3: Contest,8,2,Cy,Di"),
-    (HEAD + "9,b_1,Ben,ANN\n", "B8", '"ANN" is no candidate; the contest has "Ann". Record 3, line 3: 9,b_1,Ben,ANN'),
-    (HEAD + "9,b_1,Ben\r9,b_2,\x1b[2J\r", "B8", r'"\x1b[2J" is no candidate; the contest has "Ann", "Ben". Record 4, line 4: 9,b_2,\x1b[2J'),
-    ("1\nContest,9,2,A\\x01n,Ben\n9,b_1,A\x01n\n", "B8", r'"A\x01n" is no candidate; the contest has "A\x01n", "Ben". Record 3, line 3: 9,b_1,A\x01n'),
+    (HEAD + "9,b_1,Ben,ANN\n", "B8", '"ANN" isn\'t a candidate; the contest has "Ann". Record 3, line 3: 9,b_1,Ben,ANN'),
+    (HEAD + "9,b_1,Ben\r9,b_2,\x1b[2J\r", "B8", "\"\\x1b[2J\" isn't a candidate; the contest has \"Ann\", \"Ben\". Record 4, line 4: 9,b_2,\\x1b[2J"),
+    ("1\nContest,9,2,A\\x01n,Ben\n9,b_1,A\x01n\n", "B8", "\"A\\x01n\" isn't a candidate; the contest has \"A\\x01n\", \"Ben\". Record 3, line 3: 9,b_1,A\\x01n"),
     (HEAD + "9,b_1,Ben\n\n9,b_1,Ann\n", "B9", '"b_1" is also in record 3, line 3. Record 4, line 5: 9,b_1,Ann'),
 ]
 # A manifest, by `sample`.
 OF_MANIFEST = [
-    ("Batch,Cards\nb,3\n", "M1", 'It begins with "Batch,Cards"; its letters have to be small'),
+    ("Batch,Cards\nb,3\n", "M1", 'It begins with "Batch,Cards"; it has to be in lowercase'),
     ("batch,number\nb,3\n", "M1", 'It begins with "batch,number"'),
-    ("batch,cards,\nb,3,\n", "M1", 'It begins with "batch,cards,"; there is a comma too many after cards'),
-    ("Batch,cards, ,\nb,3\n", "M1", 'It begins with "Batch,cards, ,"; its letters have to be small; there are 2 commas too many after cards'),
+    ("batch,cards,\nb,3,\n", "M1", 'It begins with "batch,cards,"; there is an extra comma after cards'),
+    ("Batch,cards, ,\nb,3\n", "M1", 'It begins with "Batch,cards, ,"; it has to be in lowercase; there are 2 extra commas after cards'),
     ("batch,cards,place\nb,3,hall\n", "M1", 'It begins with "batch,cards,place"; "place" comes after them'),
     (BALLOTS, "M1", 'It begins with "1", as a ballot file does'),
     ("batch;cards\nb;3\n", "M1", 'It begins with "batch;cards"; its semicolons have to be commas'),
     ("batch,cards\nb;3\n", "M2", "It has 1 field; its semicolons have to be commas. Record 2, line 2: b;3"),
     ("batch,cards\nb,1,200\n", "M2", "It has 3 fields; without commas the number would be 1200. Record 2, line 2: b,1,200"),
     ('batch,cards\n"b,3\nc,4\n', "M2", 'It has 1 field. A quote in line 2 isn\'t closed in that line. Record 2, line 2: "b,3\\nc,4'),
-    ("batch,cards\nb,1.200\n", "M3", '"1.200" is no number of cards; 1200 would be one. Record 2, line 2: b,1.200'),
+    ("batch,cards\nb,1.200\n", "M3", '"1.200" isn\'t a number of cards; 1200 would be one. Record 2, line 2: b,1.200'),
     ("batch,cards\nb,1\n\nb,2\n", "M4", '"b" is also in record 2, line 2. Record 3, line 4: b,2'),
-    (f"batch,cards\n{'b' * 57},2\n", "M4", f'"{"b" * 57}" has 57 bytes, and 56 are the most. Record 2, line 2: {"b" * 57},2'),
-    (f"batch,cards\n{'b' * 65},2\n", "M4", f'"{"b" * 65}" has 65 bytes, and 56 are the most. Record 2, line 2: {"b" * 65},2'),
-    ("batch,cards\nZoë,2\n", "M4", '"Zoë" is no id; "Zoe" would be one. Record 2, line 2: Zoë,2'),
+    (f"batch,cards\n{'b' * 57},2\n", "M4", f'"{"b" * 57}" has 57 bytes; the limit is 56. Record 2, line 2: {"b" * 57},2'),
+    (f"batch,cards\n{'b' * 65},2\n", "M4", f'"{"b" * 65}" has 65 bytes; the limit is 56. Record 2, line 2: {"b" * 65},2'),
+    ("batch,cards\nZoë,2\n", "M4", '"Zoë" isn\'t an id; "Zoe" would be one. Record 2, line 2: Zoë,2'),
     ("batch,cards\n" + "".join(f"b{number},1000000\n" for number in range(11)), "M5", "Record 12, line 12: b10,1000000"),
     ("batch,cards\n", "M6", ""),
 ]
@@ -123,8 +123,8 @@ OF_ASSERTIONS = [
     (COVERED('"contest"', '"cards":4,"contest"'), "F2", 'It lacks "gamma", "limit"'),
     (COVERED('"contest"', '"cards":4,"gamma":100,"limit":50000,"contest"'), "F2", f'It lacks "draws". Assertion 1: {CLAIM}'),
     (COVERED('{"kind"', '{"draws":4,"kind"'), "F2", f'It has draws, and the file has no cards, gamma and limit for them. Assertion 1: {{"draws":4,{CLAIM[1:]}'),
-    (COVERED('"winner":"Ann"}\n', '"winner":"ann"}\n'), "F4", '"ann" is no candidate; the file has "Ann"'),
-    (CHANGED('"loser":"Ben"', '"loser":"ben"'), "F4", '"ben" is no candidate; the file has "Ben". Assertion 1: {"kind":"NEN","loser":"ben","margin":1,"rest":["Ann","Ben"],"winner":"Ann"}'),
+    (COVERED('"winner":"Ann"}\n', '"winner":"ann"}\n'), "F4", '"ann" isn\'t a candidate; the file has "Ann"'),
+    (CHANGED('"loser":"Ben"', '"loser":"ben"'), "F4", '"ben" isn\'t a candidate; the file has "Ben". Assertion 1: {"kind":"NEN","loser":"ben","margin":1,"rest":["Ann","Ben"],"winner":"Ann"}'),
     (CHANGED('"rest":["Ann","Ben"]', '"rest":["Ann"]'), "F5", 'The rest lacks "Ben". Assertion 1: {"kind":"NEN","loser":"Ben","margin":1,"rest":["Ann"],"winner":"Ann"}'),
     (CHANGED('"rest":["Ann","Ben"]', '"rest":["Ann","Ann","Ben"]'), "F5",
      '"Ann" is repeated in the rest. Assertion 1: {"kind":"NEN","loser":"Ben","margin":1,"rest":["Ann","Ann","Ben"],"winner":"Ann"}'),
@@ -134,7 +134,7 @@ OF_ASSERTIONS = [
     (CHANGED('"candidates":["Ann","Ben"]', '"candidates":["Ann"]'), "F4", "It has 1 candidate"),
     (CHANGED('"candidates":["Ann","Ben"]', '"candidates":["Ann","Ben","Ann"]'), "F4", '"Ann" is repeated among the candidates'),
     (CHANGED('"candidates":["Ann","Ben"]', '"candidates":["Ann",""]'), "F4", "The id is empty"),
-    (CHANGED('"order":["Ann","Ben"]', '"order":["Ann","ben"]'), "F4", '"ben" is no candidate; the file has "Ben"'),
+    (CHANGED('"order":["Ann","Ben"]', '"order":["Ann","ben"]'), "F4", '"ben" isn\'t a candidate; the file has "Ben"'),
     (CHANGED('"order":["Ann","Ben"]', '"order":["Ann"]'), "F5", 'The order lacks "Ben"'),
     (CHANGED('"order":["Ann","Ben"]', '"order":["Ann","Ann"]'), "F5", '"Ann" is repeated in the order'),
     (CHANGED('"margin":1,"order"', '"margin":4,"order"'), "F6", "Its margin 4 is above the 3 records"),
@@ -166,11 +166,11 @@ OF_CLAIMS = [
     (CLAIMED(',"winner":"Ann"}]', "}]"), "C2", 'It lacks "winner". Assertion 1: {"kind":"NEN","loser":"Ben","margin":1,"rest":["Ann","Ben"]}'),
     (CLAIMED('"contest":"9"', '"contest":9'), "C2", 'Its "contest" is 9; it has to be a text in quotes'),
     (CLAIMED('"contest":"9"', '"contest":"8"'), "C3", 'It is about "8", and the ballots are about "9"'),
-    (CLAIMED('"candidates":["Ann","Ben"]', '"candidates":["Ann","ben"]'), "C4", '"ben" is no candidate; the contest has "Ben"'),
+    (CLAIMED('"candidates":["Ann","Ben"]', '"candidates":["Ann","ben"]'), "C4", '"ben" isn\'t a candidate; the contest has "Ben"'),
     (CLAIMED('"candidates":["Ann","Ben"]', '"candidates":["Ann","Ben","Ann"]'), "C4", '"Ann" is repeated among the candidates'),
     (CLAIMED('"candidates":["Ann","Ben"]', '"candidates":["Ann"]'), "C4", 'The candidates lack "Ben"'),
     (CLAIMED('"loser":"Ben"', '"loser":"ben"'), "C4",
-     '"ben" is no candidate; the contest has "Ben". Assertion 1: {"kind":"NEN","loser":"ben","margin":1,"rest":["Ann","Ben"],"winner":"Ann"}'),
+     '"ben" isn\'t a candidate; the contest has "Ben". Assertion 1: {"kind":"NEN","loser":"ben","margin":1,"rest":["Ann","Ben"],"winner":"Ann"}'),
     (CLAIMED('"loser":"Ben"', '"loser":"Ann"'), "C4",
      '"Ann" is its winner and its loser. Assertion 1: {"kind":"NEN","loser":"Ann","margin":1,"rest":["Ann","Ben"],"winner":"Ann"}'),
     (CLAIMED('"rest":["Ann","Ben"]', '"rest":["Ann"]'), "C5",
@@ -181,16 +181,16 @@ OF_CONTESTS = 'The contest\'s id is between the card and "{}": only ./raire cont
 OF_SEEN = [
     (BALLOTS, "V1", 'It begins with "1", as a ballot file does'),
     ("b_1;ballot\n", "V1", "It has 1 field; its semicolons have to be commas. Record 1, line 1: b_1;ballot"),
-    ("b_1,ballots,Ann\n", "V1", '"ballots" is no word of a seen card; nearly right is "ballot". Record 1, line 1: b_1,ballots,Ann'),
-    ("b_1,Ann,ballots\n", "V1", '"Ann" is no word of a seen card; they are "ballot", "missing". Record 1, line 1: b_1,Ann,ballots'),
+    ("b_1,ballots,Ann\n", "V1", '"ballots" isn\'t a word of a seen card; the closest match is "ballot". Record 1, line 1: b_1,ballots,Ann'),
+    ("b_1,Ann,ballots\n", "V1", '"Ann" isn\'t a word of a seen card; the words are "ballot", "missing". Record 1, line 1: b_1,Ann,ballots'),
     ("b_1,9,ballot,Ann\n", "V1", f'{OF_CONTESTS.format("ballot")}. Record 1, line 1: b_1,9,ballot,Ann'),
     (SEEN + "b_2,ballots,missing\n", "V1", f'{OF_CONTESTS.format("missing")}. Record 2, line 2: b_2,ballots,missing'),
     ("b_1,missing,Ann\n", "V1", '"Ann" comes after missing. Record 1, line 1: b_1,missing,Ann'),
-    ("b_01,ballot\n", "V2", '"b_01" has a zero in front of its number; there is "b_1". Record 1, line 1: b_01,ballot'),
-    ("B_1,ballot\n", "V2", '"B" is no batch; the manifest has "b". Record 1, line 1: B_1,ballot'),
+    ("b_01,ballot\n", "V2", '"b_01" has a leading zero in its number; the card is "b_1". Record 1, line 1: b_01,ballot'),
+    ("B_1,ballot\n", "V2", '"B" isn\'t a batch; the manifest has "b". Record 1, line 1: B_1,ballot'),
     ("b_9,ballot\n", "V2", '"b" has 4 cards, and "9" is none of their numbers. Record 1, line 1: b_9,ballot'),
     (SEEN + "\n" + SEEN, "V3", '"b_1" is also in record 1, line 1. Record 2, line 3: b_1,ballot,Ann'),
-    ("b_1,ballot,Anne\n", "V5", '"Anne" is no candidate; the contest has "Ann". Record 1, line 1: b_1,ballot,Anne'),
+    ("b_1,ballot,Anne\n", "V5", '"Anne" isn\'t a candidate; the contest has "Ann". Record 1, line 1: b_1,ballot,Anne'),
 ]
 # Seen cards of two contests, by `contests` with four draws, of cards 1, 2, 3 and 4 (seed 10); where "10" is tied.
 TWO = "3\nContest,9,2,Ann,Ben\nContest,10,2,Cy,Di\nContest,11,2,Ed,Flo\n9,b_1,Ann\n11,b_2,Flo\n"
@@ -199,50 +199,50 @@ OF_ALL_SEEN = [
     (SEEN, "V1", 'The contest\'s id is missing between the card and "ballot". Record 1, line 1: b_1,ballot,Ann'),
     ("b_1,9\n", "V1", "It has 2 fields; it needs at least 3. Record 1, line 1: b_1,9"),
     ("b_1;9;ballot\n", "V1", "It has 1 field; it needs at least 3; its semicolons have to be commas. Record 1, line 1: b_1;9;ballot"),
-    ("b_1,9,ballots,Ann\n", "V1", '"ballots" is no word of a seen card; nearly right is "ballot". Record 1, line 1: b_1,9,ballots,Ann'),
+    ("b_1,9,ballots,Ann\n", "V1", '"ballots" isn\'t a word of a seen card; the closest match is "ballot". Record 1, line 1: b_1,9,ballots,Ann'),
     ("b_1,9,missing,Ann\n", "V1", '"Ann" comes after missing. Record 1, line 1: b_1,9,missing,Ann'),
-    ("b_01,9,ballot\n", "V2", '"b_01" has a zero in front of its number; there is "b_1". Record 1, line 1: b_01,9,ballot'),
-    ("b_1,90,ballot\n", "V6", '"90" is no contest; the ballot file has "9", "10", "11". Record 1, line 1: b_1,90,ballot'),
-    ("b_1,Mayor,ballot\n", "V6", '"Mayor" is no contest; the ballot file has "9", "10", "11". Record 1, line 1: b_1,Mayor,ballot'),
+    ("b_01,9,ballot\n", "V2", '"b_01" has a leading zero in its number; the card is "b_1". Record 1, line 1: b_01,9,ballot'),
+    ("b_1,90,ballot\n", "V6", '"90" isn\'t a contest; the ballot file has "9", "10", "11". Record 1, line 1: b_1,90,ballot'),
+    ("b_1,Mayor,ballot\n", "V6", '"Mayor" isn\'t a contest; the ballot file has "9", "10", "11". Record 1, line 1: b_1,Mayor,ballot'),
     ("b_1,9,ballot\n\nb_1,10,ballot\nb_1,9,ballot\n", "V3", '"b_1" is also with "9" in record 1, line 1. Record 3, line 4: b_1,9,ballot'),
-    ("b_1,11,ballot,Ann\n", "V5", '"Ann" is no candidate; the contest has "Ed", "Flo". Record 1, line 1: b_1,11,ballot,Ann'),
+    ("b_1,11,ballot,Ann\n", "V5", '"Ann" isn\'t a candidate; the contest has "Ed", "Flo". Record 1, line 1: b_1,11,ballot,Ann'),
 ]
 # Words; which of them is wrong.
 OF_WORDS = [
-    (["serch", "x"], '"serch" is no command; nearly right is "search"'),
-    (["x"], '"x" is no command; they are adopt, audit, check, contests, open, plan, plurality, poll, report, sample, search, tabulate, trial, trim'),
-    (["shwo", "x"], '"shwo" is no command; nearly right is "show"'),
-    (["audit", "--draw", "5"], '"--draw" is no option of audit; nearly right is "--draws"'),
-    (["search", "-x", "b"], '"-x" is no option of search; it has --contest, --workers, --nodes, --sets, --floor, --cards, --limit, --gamma'),
-    (["search", "---sets", "1"], '"---sets" is no option of search; nearly right is "--sets"'),
-    (["search", "--help"], '"--help" is no option of search; its page: ./raire help search'),
-    (["report", "s", "-h"], '"-h" is no option of report; its page: ./raire help report'),
-    (["search", "-"], '"-" is no file; standard input is the file /dev/stdin'),
-    (["tabulate", "-x.raire"], '"-x.raire" is no option of tabulate; it has --contest, --nodes; the file of this name is "./-x.raire"'),
-    (["report", "my", "session.json"], '"session.json" is a word too many: report takes SESSION; a name with blanks needs quotes: "my session.json"'),
-    (["check", "my", "session.json", "a"], '"a" is a word too many: check takes BALLOTS ASSERTIONS; a name with blanks needs quotes: "my session.json"'),
-    (["report", "my", "other.json"], '"other.json" is a word too many: report takes SESSION'),
+    (["serch", "x"], '"serch" isn\'t a command; the closest match is "search"'),
+    (["x"], '"x" isn\'t a command; the commands are adopt, audit, check, contests, open, plan, plurality, poll, report, sample, search, tabulate, trial, trim'),
+    (["shwo", "x"], '"shwo" isn\'t a command; the closest match is "show"'),
+    (["audit", "--draw", "5"], '"--draw" isn\'t an option of audit; the closest match is "--draws"'),
+    (["search", "-x", "b"], '"-x" isn\'t an option of search; its options are --contest, --workers, --nodes, --sets, --floor, --cards, --limit, --gamma'),
+    (["search", "---sets", "1"], '"---sets" isn\'t an option of search; the closest match is "--sets"'),
+    (["search", "--help"], '"--help" isn\'t an option of search; its page: ./raire help search'),
+    (["report", "s", "-h"], '"-h" isn\'t an option of report; its page: ./raire help report'),
+    (["search", "-"], '"-" isn\'t a file; standard input is the file /dev/stdin'),
+    (["tabulate", "-x.raire"], '"-x.raire" isn\'t an option of tabulate; its options are --contest, --nodes; the file of this name is "./-x.raire"'),
+    (["report", "my", "session.json"], '"session.json" is one word too many: report takes SESSION; a name with blanks needs quotes: "my session.json"'),
+    (["check", "my", "session.json", "a"], '"a" is one word too many: check takes BALLOTS ASSERTIONS; a name with blanks needs quotes: "my session.json"'),
+    (["report", "my", "other.json"], '"other.json" is one word too many: report takes SESSION'),
     (["search", "b", "--gamma=100"], "search takes --gamma only together with --cards"),
-    (["search", "b", "--cards=9", "--limit", "0.05"], '"0.05" is no value of --limit, which is 1 to 999999 millionths, such as 50000 for 5 percent'),
-    (["search", "b", "--cards=9", "--gamma", "501"], '"501" is no value of --gamma, which is 1 to 500 thousandths'),
-    (["check", "--workers=5", "b"], '"--workers=5" is no option of check; it has --contest, --nodes, --sets'),
-    (["report", "--nodes=5", "b"], '"--nodes=5" is no option of report; it has none'),
+    (["search", "b", "--cards=9", "--limit", "0.05"], '"0.05" isn\'t a value of --limit, which is 1 to 999999 millionths, such as 50000 for 5 percent'),
+    (["search", "b", "--cards=9", "--gamma", "501"], '"501" isn\'t a value of --gamma, which is 1 to 500 thousandths'),
+    (["check", "--workers=5", "b"], '"--workers=5" isn\'t an option of check; its options are --contest, --nodes, --sets'),
+    (["report", "--nodes=5", "b"], '"--nodes=5" isn\'t an option of report; it has no options'),
     (["search", "b", "--nodes", "1", "--nodes", "1"], "--nodes is given twice"),
     (["search", "b", "--nodes"], "--nodes has no value"),
     (["search", "b", "--nodes", "1", "--sets", "1"], "--sets takes the place of --nodes, and both are given"),
-    (["search", "b", "--fewest", "--nodes", "1"], "--nodes is no option of a line with --fewest"),
-    (["search", "b", "--nodes=1", "--fewest"], "--nodes is no option of a line with --fewest"),
+    (["search", "b", "--fewest", "--nodes", "1"], "--nodes isn't an option of a line with --fewest"),
+    (["search", "b", "--nodes=1", "--fewest"], "--nodes isn't an option of a line with --fewest"),
     (["search", "b", "--fewest=9"], "--fewest takes no value"),
-    (["search", "b", "--fewest", "9"], '"9" is a word too many: search takes BALLOTS'),
-    (["search", "b", "--fewest", "--sets", "0"], '"0" is no value of --sets, which is 1 to 1048576'),
-    (["search", "b", "--fewes"], '"--fewes" is no option of search; nearly right is "--fewest"'),
-    (["check", "b", "a", "--sets", "1048577"], '"1048577" is no value of --sets, which is 1 to 1048576'),
-    (["audit", "s", "b", "m", "a", "c", "--draws=1", "--set=5"], '"--set=5" is no option of audit; nearly right is "--sets"'),
-    (["tabulate", "b", "--sets=5"], '"--sets=5" is no option of tabulate; it has --contest, --nodes'),
+    (["search", "b", "--fewest", "9"], '"9" is one word too many: search takes BALLOTS'),
+    (["search", "b", "--fewest", "--sets", "0"], '"0" isn\'t a value of --sets, which is 1 to 1048576'),
+    (["search", "b", "--fewes"], '"--fewes" isn\'t an option of search; the closest match is "--fewest"'),
+    (["check", "b", "a", "--sets", "1048577"], '"1048577" isn\'t a value of --sets, which is 1 to 1048576'),
+    (["audit", "s", "b", "m", "a", "c", "--draws=1", "--set=5"], '"--set=5" isn\'t an option of audit; the closest match is "--sets"'),
+    (["tabulate", "b", "--sets=5"], '"--sets=5" isn\'t an option of tabulate; its options are --contest, --nodes'),
     (["sample", "b", "--seed", "-1", "--draws", "1"], '--seed has no value; "-1" begins with -, so write it after --seed='),
-    (["search", "b", "--workers", "0"], '"0" is no value of --workers, which is 1 to 8'),
+    (["search", "b", "--workers", "0"], '"0" isn\'t a value of --workers, which is 1 to 8'),
     (["sample", "b", "--seed", "2", "6", "1", "--draws", "1"],
-     '"6" is a word too many: sample takes MANIFEST; a seed of several words needs quotes, as in --seed "2 6 1 4"'),
+     '"6" is one word too many: sample takes MANIFEST; a seed of several words needs quotes, as in --seed "2 6 1 4"'),
     (["check", "b"], "check takes BALLOTS ASSERTIONS, and 1 of these is here"),
     (["check"], "check takes BALLOTS ASSERTIONS, and none of these is here"),
     (["sample", "b", "--draws", "1"], "sample needs --seed"),
@@ -250,32 +250,32 @@ OF_WORDS = [
     (["poll", "m", "a", "s", "--draws", "1"], "poll needs --seed"),
     (["poll", "m", "a", "--seed", "1", "--draws", "1"], "poll takes MANIFEST ASSERTIONS SEEN, and 2 of these are here"),
     (["poll", "m", "a", "s", "--seed=1", "--draws=1", "--contest=1"],
-     '"--contest=1" is no option of poll; it has --seed, --draws, --limit, --gamma, --nodes'),
+     '"--contest=1" isn\'t an option of poll; its options are --seed, --draws, --limit, --gamma, --nodes'),
     (["poll", "m", "a", "s", "--seed=1", "--draws=1", "--gamma=501"],
-     '"501" is no value of --gamma, which is 1 to 500 thousandths; a line with --each may have it'),
+     '"501" isn\'t a value of --gamma, which is 1 to 500 thousandths; a line with --each may have it'),
     (["poll", "m", "a", "s", "--seed=1", "--draws=1", "--gamma=best"],
-     '"best" is no value of --gamma, which is 1 to 500 thousandths; a line with --each may have it'),
-    (["poll", "m", "a", "s", "--seed=1", "--draws=1", "--gamma=beste"], '"beste" is no value of --gamma, which is 1 to 500 thousandths'),
+     '"best" isn\'t a value of --gamma, which is 1 to 500 thousandths; a line with --each may have it'),
+    (["poll", "m", "a", "s", "--seed=1", "--draws=1", "--gamma=beste"], '"beste" isn\'t a value of --gamma, which is 1 to 500 thousandths'),
     (["poll", "m", "a", "s", "--seed=1", "--draws=1", "--each", "--gamma=1000001"],
-     '"1000001" is no value of --gamma, which is 1 to 1000000 thousandths or best'),
+     '"1000001" isn\'t a value of --gamma, which is 1 to 1000000 thousandths or best'),
     (["poll", "m", "a", "s", "--seed=1", "--draws=1", "--each=1"], "--each takes no value"),
     (["poll", "m", "a", "s", "--seed=1", "--draws=1", "--each", "--each"], "--each is given twice"),
     (["poll", "m", "a", "s", "--each", "--draws=1"], "poll needs --seed"),
-    (["plan", "m", "a", "--gamma=best"], '"best" is no value of --gamma, which is 1 to 500 thousandths; a line with --poll may have it'),
-    (["plan", "m", "a", "--gamma=501"], '"501" is no value of --gamma, which is 1 to 500 thousandths; a line with --poll may have it'),
+    (["plan", "m", "a", "--gamma=best"], '"best" isn\'t a value of --gamma, which is 1 to 500 thousandths; a line with --poll may have it'),
+    (["plan", "m", "a", "--gamma=501"], '"501" isn\'t a value of --gamma, which is 1 to 500 thousandths; a line with --poll may have it'),
     (["plan", "m", "a", "--poll=1"], "--poll takes no value"),
     (["contests", "b", "m", "s", "--seed=1"], "contests needs --draws"),
     (["contests", "b", "m", "--seed=1", "--draws=1"], "contests takes BALLOTS MANIFEST SEEN, and 2 of these are here"),
     (["contests", "b", "m", "s", "--seed=1", "--draws=1", "--contest=1"],
-     '"--contest=1" is no option of contests; it has --seed, --draws, --limit, --gamma, --workers, --nodes'),
-    (["contest", "b"], '"contest" is no command; nearly right is "contests"'),
+     '"--contest=1" isn\'t an option of contests; its options are --seed, --draws, --limit, --gamma, --workers, --nodes'),
+    (["contest", "b"], '"contest" isn\'t a command; the closest match is "contests"'),
     (["plurality", "b", "m"], "plurality needs --seed"),
     (["plurality", "b", "--seed=1"], "plurality takes BALLOTS MANIFEST, and 1 of these is here"),
     (["plurality", "b", "m", "--seed", "1", "--draws", "1"],
-     '"--draws" is no option of plurality; it has --seed, --contest, --limit, --gamma'),
+     '"--draws" isn\'t an option of plurality; its options are --seed, --contest, --limit, --gamma'),
     (["plurality", "s", "b", "m", "--draws", "1"], "plurality takes SESSION BALLOTS MANIFEST SEEN, and 3 of these are here"),
     (["plurality", "s", "b", "m", "v"], "plurality needs --draws"),
-    (["plurality", "s", "b", "m", "v", "--draws", "0"], '"0" is no value of --draws, which is 1 to 100000'),
+    (["plurality", "s", "b", "m", "v", "--draws", "0"], '"0" isn\'t a value of --draws, which is 1 to 100000'),
 ]
 
 
@@ -346,7 +346,7 @@ def files_are_told(tried):
     for text, rule, told in OF_CLAIMS:
         tried.breaks("broken.json", text, rule, told, "adopt", "ballots.raire", "broken.json")
     opens = ["manifest.csv", "assertions.json", "--seed=10"]
-    tried.breaks("far.raire", HEAD + "9,c_1,Ann\n", "M7", '"c" is no batch; the manifest has "b". Record 3, line 3: 9,c_1,Ann', "open", "far.raire", *opens)
+    tried.breaks("far.raire", HEAD + "9,c_1,Ann\n", "M7", '"c" isn\'t a batch; the manifest has "b". Record 3, line 3: 9,c_1,Ann', "open", "far.raire", *opens)
 
 
 def audits_are_told(tried):
@@ -361,7 +361,7 @@ def audits_are_told(tried):
     left = [card for card in cards if card != "b_1"]
     told = f"Not read yet ({len(left)} of the {len(cards)} cards that are drawn): {', '.join(left)}"
     tried.see("several cards are unread", len(left) > 1)
-    told = "Most drawn cards aren't read. If they should be, the seed or the manifest is another one. The seed is " + '"10". ' + told
+    told = "Most drawn cards aren't read. If they should be, check the seed and the manifest. The seed is " + '"10". ' + told
     tried.see("most cards are unread", 2 * len(left) > len(cards))
     tried.breaks("seen.csv", SEEN, "V4", told, "audit", "open.json", *files, "seen.csv", "--draws=9")
     tried.breaks("seen.csv", SEEN, "V4", told, "poll", *files[1:], "seen.csv", "--seed=10", "--draws=9")
@@ -405,11 +405,11 @@ def contests_are_told(tried):
     bare = [f"{card},{name},ballot" for name in ("9", "10", "11") for card in drawn if (name, card) not in recorded]
     apart = f"{len(bare)} of these have no record in the ballot file: if the card doesn't have the contest, write {bare[0]}"
     tried.see("some cards have no record of a contest", len(bare) > 1)
-    other = "Most drawn cards aren't read. If they should be, the seed or the manifest is another one. The seed is " + '"10"'
+    other = "Most drawn cards aren't read. If they should be, check the seed and the manifest. The seed is " + '"10"'
     tried.breaks("seen.csv", "", "V4", ". ".join([other, *(f'Not read yet for "{name}" {unread}' for name in (9, 10, 11)), none, apart]), *words)
     write("far.raire", TWO + "11,c_1,Ed\n")
     write("seen.csv", "")
-    tried.breaks("far.raire", TWO + "11,c_1,Ed\n", "M7", '"c" is no batch; the manifest has "b". Record 7, line 7: 11,c_1,Ed', "contests", "far.raire", *words[2:])
+    tried.breaks("far.raire", TWO + "11,c_1,Ed\n", "M7", '"c" isn\'t a batch; the manifest has "b". Record 7, line 7: 11,c_1,Ed', "contests", "far.raire", *words[2:])
 
 
 def pluralities_are_told(tried):
@@ -418,7 +418,7 @@ def pluralities_are_told(tried):
     status, session, err = tried.ran(["plurality", *files, "--seed=10"])
     tried.see("an audit of first preferences is opened, and nothing more is said", (status, err) == (0, ""), err)
     write("first.json", session.decode())
-    tried.breaks("seen.csv", "b_1,ballot,Anne\n", "V5", '"Anne" is no candidate; the contest has "Ann". Record 1, line 1: b_1,ballot,Anne',
+    tried.breaks("seen.csv", "b_1,ballot,Anne\n", "V5", '"Anne" isn\'t a candidate; the contest has "Ann". Record 1, line 1: b_1,ballot,Anne',
                  "plurality", "first.json", *files, "seen.csv", "--draws=4")
     tried.breaks("seen.csv", "b_1,9,missing\n", "V1", f'{OF_CONTESTS.format("missing")}. Record 1, line 1: b_1,9,missing',
                  "plurality", "first.json", *files, "seen.csv", "--draws=4")
@@ -442,7 +442,7 @@ def words_are_told(tried):
 
 def paths_are_told(tried):
     """Of a path that leads to no file, and of a file that can't be read, the true cause."""
-    tried.says(["tabulate", "ballot.raire"], f'no such file: {table.causes()["no such file"]}. Nearly right is "ballots.raire". {END}')
+    tried.says(["tabulate", "ballot.raire"], f'no such file: {table.causes()["no such file"]}. The closest match is "ballots.raire". {END}')
     os.symlink("nowhere", "dangling")
     tried.says(["tabulate", "dangling"], f'no such file: {table.causes()["no such file"]}. It is a link, and where it leads there is no file. {END}')
     tried.says(["tabulate", "dangling/x"], f'no such file: {table.causes()["no such file"]}. There is no folder "dangling". {END}')
@@ -450,12 +450,12 @@ def paths_are_told(tried):
     tried.says(["tabulate", "odd\x01"], f'no such file: {table.causes()["no such file"]}. {END}')
     os.symlink("circle", "circle")
     faults = {
-        ".": "It is a folder", "ballots.raire/x": '"ballots.raire" is a file, and no folder', "ballots.raire/x/y": '"ballots.raire" is a file, and no folder',
-        "b" * 300: "Its name is longer than the system takes", "b/" * 3_000: "Its name is longer than the system takes",
-        **dict.fromkeys(("circle", "circle/x"), "Its links lead in a circle, or are more than the system follows"),
+        ".": "It is a folder", "ballots.raire/x": '"ballots.raire" is a file, not a folder', "ballots.raire/x/y": '"ballots.raire" is a file, not a folder',
+        "b" * 300: "Its name is longer than the system allows", "b/" * 3_000: "Its name is longer than the system allows",
+        **dict.fromkeys(("circle", "circle/x"), "Its links form a loop, or there are too many"),
         "/proc/self/mem": f"The system says: {os.strerror(errno.EIO)}",
     }
-    no_right = "You have no right to read it, or to go through a folder of its path"
+    no_right = "You don't have permission to read it, or to go through a folder of its path"
     tried.see("a right that is missing is told", rules.why_unreadable("x", errno.EACCES) == no_right)
     write("closed.raire", BALLOTS)
     os.chmod("closed.raire", 0)
@@ -463,7 +463,7 @@ def paths_are_told(tried):
         tried.says(["tabulate", path], f'read fault: {table.causes()["read fault"]}. {told}. {END}')
     write("large.raire", "")
     os.truncate("large.raire", limits.MOST_FILE_BYTES + 1)
-    tried.says(["tabulate", "large.raire"], f'too long: {table.causes()["too long"]}. It has {limits.MOST_FILE_BYTES + 1} bytes, and {limits.MOST_FILE_BYTES} are the most. {END}')
+    tried.says(["tabulate", "large.raire"], f'too long: {table.causes()["too long"]}. It has {limits.MOST_FILE_BYTES + 1} bytes; the limit is {limits.MOST_FILE_BYTES}. {END}')
     os.remove("large.raire")
 
 
@@ -480,7 +480,7 @@ def budgets_are_told(tried):
         tried.says([*words, "--sets=1"], further)
     nothing = os.path.join(TOP, "acceptance", "cases", "check_spent", "assertions.json")
     tried.says(["poll", "manifest.csv", nothing, "seen.csv", "--seed=10", "--draws=1", "--nodes=1"],
-               f"spent: give it --nodes {limits.MOST_NODES}; it is the most there may be. {END}")
+               f"spent: give it --nodes {limits.MOST_NODES}; it is the maximum. {END}")
 
 
 def answers_are_left(tried):

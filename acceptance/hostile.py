@@ -34,6 +34,7 @@ LINES = {
     "check": ["check", "ballots.raire", "assertions.json"],
     "check of draws": ["check", "ballots.raire", "planned.json"],
     "trim": ["trim", "ballots.raire", "assertions.json"],
+    "adopt": ["adopt", "ballots.raire", "assertions.json"],
     "sample": ["sample", "manifest.csv", "--seed=2024", "--draws=3"],
     "plan": ["plan", "manifest.csv", "assertions.json"],
     "open": ["open", "ballots.raire", "manifest.csv", "assertions.json", "--seed=2024"],
@@ -273,7 +274,7 @@ PLANNED = [
 # first command; a further one, which reads them likewise, gets few of those that have to be refused.
 MALICIOUS = {
     "ballots.raire": (BALLOTS, {"tabulate": set(), "open": {2, 6}, "plurality": {2, 3}, "contests": {2}}), "plural.json": (SESSIONS, {"plurality, a round": {2}}),
-    "assertions.json": (ASSERTIONS, {"check": set(), "trim": {0, 2}, "plan": {0, 2}, "poll": {0, 2}}),
+    "assertions.json": (ASSERTIONS, {"check": set(), "trim": {0, 2}, "plan": {0, 2}, "poll": {0, 2}, "adopt": {0, 2, 6}}),
     "planned.json": (PLANNED, {"check of draws": set()}),
     "manifest.csv": (MANIFESTS, {"sample": set(), "open": {2}, "poll": {2}, "plurality": {2}, "contests": {2}}), "session.json": (SESSIONS, {"report": set(), "audit": {2}}),
     "seen.csv": (SEEN, {"audit": set(), "poll": set(), "plurality, a round": set()}), "seen_by.csv": (SEEN_BY, {"contests": set()}),

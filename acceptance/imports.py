@@ -2,7 +2,7 @@
 """Tries ./raire import: what ./raire export writes in each form comes back with the same claims, files made by hand too, and damaged ones are refused.
 
 acceptance/imports.py PROGRAM [COUNT] lets PROGRAM search COUNT contests that are drawn by chance, exports each in each form, imports that, and compares the claims with
-those of the assertion file as sets. It calls candidates by names too, and reads what is exported for raire-rs as a plain problem. It imports the files of examples/imports,
+those of the assertion file as sets. PROGRAM adopts what was imported, with the same claims and margins. It calls candidates by names too, and reads what is exported for raire-rs as a plain problem. It imports the files of examples/imports,
 damages each of their values and members, and cuts them off. The last line says how many came out as they should.
 """
 import contextlib
@@ -50,6 +50,13 @@ def claims_in(file):
     return claims, file["candidates"], file["contest"], file["winner"]
 
 
+def margins_in(text):
+    """Each assertion of an assertion file with its margin, and the rest that is said of the contest, but for the order and the version."""
+    file = json.loads(text)
+    claims = sorted((each["kind"], each["winner"], each["loser"], sorted(each.get("rest", ())), each["margin"]) for each in file["assertions"])
+    return claims, *(file[name] for name in ("candidates", "contest", "margin", "records", "winner"))
+
+
 def wrong_in(text, wanted):
     """What isn't right about the text of a claims file, or None."""
     file = json.loads(text)
@@ -91,7 +98,7 @@ def round_trips(program, folder, count):
         status, text, _ = ran(program, "search", "--nodes", exported.NODES, ballots)
         if status:
             continue
-        path, out, names = (os.path.join(folder, name) for name in ("assertions.json", "out.json", "names.csv"))
+        path, out, claims, names = (os.path.join(folder, name) for name in ("assertions.json", "out.json", "claims.json", "names.csv"))
         write(path, text)
         wanted, chance = claims_in(json.loads(text)), random.Random(ballots)
         for form, readers in FORMS.items():
@@ -103,6 +110,9 @@ def round_trips(program, folder, count):
             for reader in readers:
                 status, got, err = called(import_claims, [reader, out])
                 yield f"{ballots} as {form} by {reader}: {err}", status == 0 and wrong_in(got, wanted) is None
+                write(claims, got)
+                adopted = ran(program, "adopt", "--nodes", exported.NODES, ballots, claims)
+                yield f"{ballots} as {form} by {reader}, adopted: {adopted}", adopted[0] == 0 and margins_in(adopted[1]) == margins_in(text)
             if wanted[2] not in wanted[1]:  # what has the same id as a candidate would have the same name
                 yield f"{ballots} as {form}, named", is_read_by_names(chance, made, readers[0], wanted, out, names)
 

@@ -101,8 +101,8 @@ def shelves(tried):
     wanted = 'batch,number,card,draws,place\nB05,36,B05_36,1,"shelf 5, left"\nB07,19,B07_19,2,"shelf 7, left"\n'
     tried.see("places are told", tried.run("cards", *words, "--places", "places.csv") == (0, wanted, ""))
     write("few.csv", "B05,shelf 5\n")
-    tried.refused(2, "cards: few.csv: there is no place of B07, of which a card is listed\n", "cards", *words, "--places=few.csv")
-    for text, told in (("B05\n", "record 1 is no batch"), ("batch,place\n\nB09,x\n", "record 2 is about B09, and "), ("B05,a\nB05,b\n", "record 2 is about B05, which")):
+    tried.refused(2, "cards: few.csv: no place for batch B07, which has a listed card\n", "cards", *words, "--places=few.csv")
+    for text, told in (("B05\n", "record 1 isn't a batch"), ("batch,place\n\nB09,x\n", "record 2 is about B09, and "), ("B05,a\nB05,b\n", "record 2 repeats B05")):
         write("bad.csv", text)
         tried.refused(2, f"cards: bad.csv: {told}", "cards", *words, "--places=bad.csv")
     tried.refused(12, "cards: none.csv: no such file\n", "cards", *words, "--places=none.csv")
@@ -139,7 +139,7 @@ def card_words(tried):
     tried.refused(12, "raire: none.csv: no such file\n", "cards", "none.csv", "--seed", SEED, "--draws", "4")
     for more, told in [
         (["--after", "40"], "--after needs fewer draws"), (["--after=x"], "--after needs fewer draws"), (["--after=-1"], "--after needs fewer draws"),
-        (["--seed", "2"], "--seed is given twice"), (["--page", "--sheet"], "--page, --sheet and --entry are asked for one"), (["more"], "unrecognized"),
+        (["--seed", "2"], "--seed is given twice"), (["--page", "--sheet"], "give only one of --page, --sheet and --entry"), (["more"], "unrecognized"),
         (["--entry"], "--entry needs the candidates"), (["--ballots", BALLOTS], "--ballots and --names are for"), (["--plac=x"], "unrecognized"),
         (["--contest=1"], "--contest is for"), (["--ranks=2"], "--ranks is for"),
     ]:
@@ -152,8 +152,8 @@ def card_words(tried):
     tried.refused(1, "cards: the following arguments are required: --draws", "cards", MANIFEST, "--seed", SEED)
     tried.refused(2, "raire: " + BALLOTS + ": B5 at 1\n", "cards", *words, "--entry", "--ballots", BALLOTS, "--contest", "9")
     for text, told in [
-        ("id,name\n1,A\n1,B\n", ": record 3 is about 1, who came before"), ("1,A\n2\n", ": record 2 isn't id,name of a candidate"), ("", " has no candidates"),
-        ("contest,id,name\n7,1,A\n8,1,A\n", " has several contests; --contest says which"), ("contest,id,name\n1,A\n", ": record 2 isn't contest,id,name"),
+        ("id,name\n1,A\n1,B\n", ": record 3 repeats 1"), ("1,A\n2\n", ": record 2 isn't id,name of a candidate"), ("", " has no candidates"),
+        ("contest,id,name\n7,1,A\n8,1,A\n", " has several contests; name one with --contest"), ("contest,id,name\n1,A\n", ": record 2 isn't contest,id,name"),
     ]:
         write("names.csv", text)
         tried.refused(2, f"cards: names.csv{told}", "cards", *words, "--entry", "--names", "names.csv")
@@ -183,7 +183,7 @@ def agreements(tried):
     for bad, told in [
         ("B01_4,\n", "V1 at 1: the card B01_4 has no reading"), ("B01_4\n", "V1 at 1: the card B01_4 has no reading"),
         ("\nx_1,ballot\nx_2,balot\n", "V1 at 2: the card x_2 has neither"), ("x_1,missing,Ash\n", "V1 at 1: the card x_1 is missing, and"),
-        ("x_1,,Ash\n", "V1 at 1: the card x_1 has neither"), ("x_1,missing\nx_1,missing\n", "V3 at 2: the card x_1 came before, in record 1"),
+        ("x_1,,Ash\n", "V1 at 1: the card x_1 has neither"), ("x_1,missing\nx_1,missing\n", "V3 at 2: the card x_1 is already in record 1"),
     ]:
         write("b.csv", bad)
         tried.refused(2, f"agree: b.csv: {told}", "agree", "a.csv", "b.csv")
@@ -235,12 +235,12 @@ def own_batches(tried):
             for path, cards in (("county.csv", sizes.values()), ("own.csv", [sizes[batch] for batch in own])):
                 plan = tried.run("raire", "plan", path, "ward.json")[1].splitlines()[-1].removeprefix("all: ")
                 tried.see(f"the plan on {path} is told", f": {sum(cards):,} cards in {len(cards)} batches: {plan}\n" in told, told)
-            tried.see("the premise is told", "A batch that is left out can't have the contest, whatever its records say" in told, told)
+            tried.see("the premise is told", "Make sure that no batch that is left out can have the contest, whatever its records say" in told, told)
             opened = tried.run("raire", "open", "ward.raire", "own.csv", "ward.json", "--seed=1")
             tried.see("an audit is opened on them", opened[0] == 0, opened)
     write("one.csv", "batch,cards\nP019,400\n" + wanted.partition("\n")[2])
     told = tried.run("batches", "ward.raire", "one.csv")[2]
-    tried.see("one batch is told as one", "batches: left out: 400 cards in 1 batch\n" in told and "A batch that is left out" in told, told)
+    tried.see("one batch is told as one", "batches: left out: 400 cards in 1 batch\n" in told and "Make sure that no batch that is left out" in told, told)
     told = tried.run("batches", "ward.raire", "own.csv")[2]
     tried.see("where none is left out, there is no premise", told.endswith("batches: left out: 0 cards in 0 batches\n"), told)
     told = tried.run("batches", "ward.raire", "county.csv", "--limit=100000", "--gamma", "200")[2]
@@ -296,7 +296,7 @@ def all_cards(tried):
         tried.refused(1, f"cards: {told}", "cards", "m.csv", *words)
     tried.refused(2, "cards: --batch names B9, and m.csv has no such batch\n", "cards", "m.csv", "--all", "--batch=B9")
     write("large.csv", "batch,cards\nB1,5001\n")
-    tried.refused(1, "cards: 5,001 cards are more than a page has", "cards", "large.csv", "--all", "--entry", "--ballots", BALLOTS)
+    tried.refused(1, "cards: 5,001 cards are more than a page holds", "cards", "large.csv", "--all", "--entry", "--ballots", BALLOTS)
     write("names.csv", 'contest,id,name\n1,,Town council\n1,Ash,"Ash, Ana"\n')
     page = tried.run("cards", "m.csv", "--all", "--entry", "--marks", "--ranks=3", "--ballots", BALLOTS, "--contest", "Town council seat 3")[1]
     tried.see("marks have a row for write-ins", '"Write-in (no candidate)"' in page and '"ranks": 3' in page and '"has_marks": true' in page)
@@ -374,7 +374,7 @@ def named(tried):
     tried.see("a report with names", got[0] == 0 and got[1].startswith("contest Mayor (101)\ncards 4\n"), got)
     got = run_script(tried, "contests", "b.raire", "m.csv", "s.csv", "--seed=1", "--draws=1", *given)
     tried.see("a refusal is the program's", got[0] == 12 and got[2].startswith("raire: s.csv: no such file\n"), got)
-    for text, told in [("", "names: names.csv"), ("id,name\n1,A\n1,B\n", "names: names.csv: record 3 is about 1, who came before")]:
+    for text, told in [("", "names: names.csv"), ("id,name\n1,A\n1,B\n", "names: names.csv: record 3 repeats 1")]:
         write("names.csv", text)
         got = run_script(tried, "tabulate", "b.raire", *given)
         tried.see(f"names {text!r}", (got[0], got[2][:len(told)]) == (2, told) if text else got[0] == 0, got)
@@ -482,7 +482,7 @@ def manifests(tried):
     write("l.csv", "Tabulator,Batch ID,Ballots,First,Last\n01,1,10,1,10\n1,2,5,11,15\n2,1,6,20,25\n2,2,0,,\n")
     wanted = "batch,cards\n1_1,10\n1_2,5\n2_1,6\n"
     told = (
-        "manifest: 3 batches with 21 cards; the id of a card is batch, _ and its number from 1, as in 1_1_1\nmanifest: left out, since without cards: 2_2\n"
+        "manifest: 3 batches with 21 cards; the id of a card is batch, _ and its number from 1, as in 1_1_1\nmanifest: left out because they have no cards: 2_2\n"
         "manifest: numbers 16 to 19 are missing: between batch 1_2 and batch 2_1\n"
     )
     got = tried.run("manifest", "dominion", "l.csv")
@@ -500,8 +500,8 @@ def manifests(tried):
     write("h.csv", "Batch Number;Cards\n1;2\n")
     tried.refused(2, "manifest: h.csv: line 1: no column is called batchnumber", "manifest", "hart", "h.csv")
     for text, told in [
-        ("batch,cards\nB1,x\n", "line 2: x is no number of cards"), ("batch,cards\nB1,\"1,200\"\n", "line 2: 1,200 is no number of cards; without marks it would be 1200"),
-        ("batch,cards\nB1,2\nB1,3\n", "line 3: the batch B1 came before, at b.csv: line 2"), ("batch,cards\nB1,2\n,2\n", "line 3: the row has no batch"),
+        ("batch,cards\nB1,x\n", "line 2: x isn't a number of cards"), ("batch,cards\nB1,\"1,200\"\n", "line 2: 1,200 isn't a number of cards; without marks it would be 1200"),
+        ("batch,cards\nB1,2\nB1,3\n", "line 3: the batch B1 is already at b.csv: line 2"), ("batch,cards\nB1,2\n,2\n", "line 3: the row has no batch"),
         ("batch,cards\nTotal,2\n", "line 2: the row has no batch: take a line of totals out"), ("batch,cards\nÖl,2\n", "line 2: no manifest can have the batch Öl"),
         ("batch,cards,first,last\nB1,2,1,3\n", "line 2: the numbers 1 to 3 are 3 cards, and the count is 2"), ("batch,first,last\nB1,5,4\n", "line 2: the numbers 5 to 4 are 0 cards"),
         ("batch,first,last\nB1,1,5\nB2,5,6\n", "line 3: the numbers 5 to 6 of batch B2 overlap with those of batch B1, which end with 5"),
@@ -534,12 +534,12 @@ def rounds(tried):
             remaining.remove(gone[-1])
         told = [line.removeprefix("eliminated ") for line in text.splitlines() if line.startswith("eliminated ")]
         tried.see(f"rounds {number}", (status, told, text.splitlines()[-1]) == (0, gone, f"winner {remaining[0]}"), (text, err))
-        tried.see("that they aren't proved is told", "nothing of it is proved" in err, err)
+        tried.see("that they aren't proved is told", "none of it is proved" in err, err)
     tie = os.path.join(TOP, "examples", "tie_that_matters.raire")
     got = tried.run("rounds", tie)
     wanted = "contest 1\nrecords 5\nround 1: 1=2 2=2 3=1 exhausted=0\neliminated 3\nround 2: 1=2 2=2 exhausted=1\ntied 1,2\n"
     tried.see("the rounds up to a tie", got == (3, wanted, "rounds: 1,2 tie; --ties gives the order in which those who tie are eliminated, the first of it first\n"), got)
-    tried.refused(2, "rounds: --ties names 9, who is no candidate; there are: 1; 2; 3\n", "rounds", tie, "--ties=9")
+    tried.refused(2, "rounds: --ties names 9, who isn't a candidate; there are: 1; 2; 3\n", "rounds", tie, "--ties=9")
     tried.refused(2, "rounds: --ties names a candidate twice\n", "rounds", tie, "--ties=1,1")
     tried.see("an order without one who ties stops there", tried.run("rounds", tie, "--ties=3,1")[0] == 3)
 

@@ -259,7 +259,7 @@ def sessions(shows, tried):
     tried.see("the line that ./raire adds stands last", len(lines) == 4 and lines[2].startswith("raire: S1: "), lines)
     write("cards.json", audits.session_with(rounds[:0], False).replace('"cards":1', '"cards":2'))
     got = shows.run("cards.json", "manifest.csv")
-    tried.see("another number of cards is told", got[:2] == (1, "") and got[2].startswith("show: cards.json is about 2 cards, and manifest.csv has 1. What to do: use both files of one contest"), got)
+    tried.see("another number of cards is told", got[:2] == (1, "") and got[2].startswith("show: cards.json is about 2 cards, and manifest.csv has 1. What to do: use files of the same contest"), got)
     write("margins.json", audits.session_with(rounds[:0], False).replace('"gamma":100', '"gamma":99').replace('"version":1', '"version":1,"more":1'))
     status, page, err = shows.run("margins.json", *files)
     tried.see("a session in another form is shown", status == 0 and "no card was drawn yet" in page, err)
@@ -286,10 +286,10 @@ def promises(shows, tried):
     write("large.json", found[2])
     shutil.copy(os.path.join(HERE, "cases", "check_assembly_spent", "assertions.json"), "none.json")
     for files, follows, said in [
-        (["whole.json"], True, "refute every order that elects another candidate than 2"), (["whole.json", row1], True, "The assertions hold"),
+        (["whole.json"], True, "refute every order that elects a candidate other than 2"), (["whole.json", row1], True, "The assertions hold"),
         (["winner.json", row1], False, "no: winner is 2"), (["winner.json"], False, "standing"), (["part.json"], False, "standing"),
         (["part.json", row1], False, "isn’t accepted"), (["mayor.json", mayor, "--nodes", "2"], False, "The check was spent"),
-        (["large.json"], True, "refute every order that elects another candidate than 56"), (["large.json", assembly], True, "The assertions hold"),
+        (["large.json"], True, "refute every order that elects a candidate other than 56"), (["large.json", assembly], True, "The assertions hold"),
         (["none.json"], False, "A check by the program goes through all of them"), (["none.json", assembly], False, "The program’s check goes through all of them"),
     ]:
         status, page, err = shows.run(*files)
@@ -384,7 +384,7 @@ def belonging(shows, tried):
     tried.see("the county isn't the town", got[0] == 1 and got[1] == "" and county in got[2] and town in got[2] and "M7 at 3 " in got[2], got)
     write("4.json", audits.ASSERTIONS.replace('"records":1', '"records":9'))
     got = shows.run("4.json", "3.csv")
-    tried.see("more ballots than cards are told", got == (1, "", "show: 4.json is about 9 ballots, and 3.csv has 3 cards. What to do: use both files of one contest; compare sha256sum\n"), got)
+    tried.see("more ballots than cards are told", got == (1, "", "show: 4.json is about 9 ballots, and 3.csv has 3 cards. What to do: use files of the same contest; compare sha256sum\n"), got)
 
 
 def seen_alone(shows, tried):
@@ -600,7 +600,7 @@ def counts(shows, tried):
         text = text_of(page) if status == 0 else err
         found = states_of(page)
         tried.see("the village is counted", status == 0 and [kind for kind, _, _ in found] == ["part", "unsigned"], (found, err))
-        head = "COUNTED, BUT 1 OF 60 CARDS HAS NO BALLOT IN IT: Oak wins by 59 ballots of counted.raire. This is no full count until"
+        head = "COUNTED, BUT 1 OF 60 CARDS HAS NO BALLOT IN IT: Oak wins by 59 ballots of counted.raire. This isn’t a full count until"
         tried.see("who wins by the count, and how many cards have no ballot in it", found and found[0][2].startswith(head), found)
         tried.see("the audit before it", found and found[-1][2].startswith("NOT SIGNED OFF after 38 draws in 1 round: 3 of 3 assertions"), found)
         tried.see("nobody is told to draw on", status == 0 and "Draw further cards" not in text)
@@ -626,7 +626,7 @@ def counts(shows, tried):
         (["a.raire", "b.raire"], 1, "show: a.raire and b.raire are both of one kind (ballot file); give one of them, or call"),
         (["a.raire", "b.raire", "counted.raire"], 1, "show: a.raire and b.raire are both of one kind"),
         (["counted.raire", "tie_counted.raire"], 1, "show: counted.raire and tie_counted.raire are both of one kind"),
-        (["a.raire", "others_counted.raire"], 1, "show: others_counted.raire has other candidates than a.raire"),
+        (["a.raire", "others_counted.raire"], 1, "show: others_counted.raire has different candidates than a.raire"),
         (["a.raire", "contest_counted.raire"], 2, "raire: contest_counted.raire: B5 at 1"),
     ]:
         got = shows.run(*words)
@@ -788,12 +788,12 @@ def polls_of_each(shows, tried, files):
         last = max((int(said.rpartition(" ")[2]) for said in told if said != "no"), default=0)
         tried.see(f"the state of the poll {words}", states_of(page)[0][2].startswith(f"{head}{last}." if head.startswith("CONF") else head), states_of(page))
         tried.see(f"how gamma was found: {words}", ("Gamma the one that fits each margin" in text) == ("--gamma=best" in words), text[-1500:])
-    tells = "show: --seed, --draws, --limit and --gamma are of a poll or of all contests on one sample: give --seed, --draws, a manifest"
+    tells = "show: --seed, --draws, --limit and --gamma are for a poll or for all contests on one sample: give --seed, --draws, a manifest"
     ballots, terms = os.path.join(TOP, "examples", "harbor", "ballots.raire"), [f"--seed={SEED}", "--draws=9"]
     for words, told in [
         ([*files, "--each"], tells), ([*files, *terms, "--each=1"], "show: --each has no value"), ([*files, *terms, "--each", "--each"], "show: --each is given twice"),
         ([*files, *terms, "--gamma=best"], "show: --gamma needs a number from 1 to 500"), ([*files, *terms, "--each", "--gamma=1000001"], "show: --gamma needs a number from 1 to 1000000"),
-        ([*files, *terms, "--each", "--limit=best"], "show: --limit needs a number from 1 to"), ([ballots, files[0], "seen.csv", *terms, "--each"], "show: --each is of a poll, and"),
+        ([*files, *terms, "--each", "--limit=best"], "show: --limit needs a number from 1 to"), ([ballots, files[0], "seen.csv", *terms, "--each"], "show: --each is for a poll, but"),
     ]:
         got = shows.run(*words)
         tried.see(f"{words} are refused", got[:2] == (1, "") and got[2].startswith(told), got)
@@ -804,7 +804,7 @@ def refused_polls(shows, tried, files, terms):
     harbor_files = {name: os.path.join(TOP, "examples", "harbor", name) for name in ("ballots.raire", "session.json")}
     changed("seen.csv", "less.csv", ("H1_1,ballot", "H9_1,ballot"))
     write("one.csv", "H1_1,ballot\n")
-    tells = "show: --seed, --draws, --limit and --gamma are of a poll or of all contests on one sample: give --seed, --draws, a manifest"
+    tells = "show: --seed, --draws, --limit and --gamma are for a poll or for all contests on one sample: give --seed, --draws, a manifest"
     for words, status, told in [
         ([*files, *terms], 1, tells), ([*files, "--draws=9"], 1, tells), ([*files, "--limit=9"], 1, tells), ([*files[:2], *terms, "--draws=9"], 1, tells),
         *(([*files, other, *terms, "--draws=9"], 1, tells) for other in harbor_files.values()), ([harbor_files["ballots.raire"], "--gamma=9"], 1, tells),
@@ -924,11 +924,11 @@ def refused_counties(shows, tried, files, terms):
     changed(ballots, "far.raire", ("Sheriff,P1_1,", "Sheriff,P9_1,"))
     write("names.csv", "id,name\nChen,Chen\n")
     write("counted.raire", "1\nContest,7,2,1,2\n")
-    tells = "show: --seed, --draws, --limit and --gamma are of a poll or of all contests on one sample: give"
+    tells = "show: --seed, --draws, --limit and --gamma are for a poll or for all contests on one sample: give"
     for words, status, told in [
         ([ballots, manifest, "other.csv", *terms], 2, "raire: other.csv: V6 at "), (["far.raire", manifest, seen, *terms], 2, "raire: far.raire: M7 at "),
         ([ballots, town, seen, *terms], 2, f"raire: {seen}: V2 at 1\n"), ([*files, terms[0], "--draws=100"], 2, f"raire: {seen}: V4 card "),
-        ([*files, *terms, "--contest=Mayor"], 1, "show: --contest is of one contest"), ([*files, *terms, "--sets=5"], 1, "show: all contests on one sample have no --sets"), ([*files, "names.csv", *terms], 1, "show: names.csv names the candidates of one contest"),
+        ([*files, *terms, "--contest=Mayor"], 1, "show: --contest is for one contest"), ([*files, *terms, "--sets=5"], 1, "show: all contests on one sample have no --sets"), ([*files, "names.csv", *terms], 1, "show: names.csv names the candidates of one contest"),
         ([*files, "counted.raire", *terms], 1, "show: counted.raire is a full count of one contest"), ([*files, terms[0]], 1, tells), ([*files, terms[1]], 1, tells),
         ([ballots, manifest, *terms], 1, tells), ([ballots, seen, *terms], 1, tells), ([*files, *terms, "--draws=0"], 1, "show: --draws is given twice"),
         ([*files, os.path.join(TOP, "examples", "town", "session.json"), *terms], 1, tells), (files, 2, f"raire: {ballots}: B5 at 1\n"),
@@ -1004,8 +1004,8 @@ def names(shows, tried):
     tried.see("a card's ranking has names", "Lee, Ann > Zoë Œil" in text_of(page), text_of(page)[-900:])
     for text, told in [
         ("c-one,Zoë\n", "doesn't begin with a line id,name"), ("id,name\nc-one\n", "record 2 isn't id,name of a candidate"), ("id,name\nc-one,\n", "record 2 isn't"),
-        ("id,name\nc-one,A\nc-one,B\n", "record 3 is about c-one, who came before"), ("contest,id,name\n8,c-one,A\n", "has no names for the candidates of contest 7"),
-        ("contest,id,name\n7,c-one,A\n7,c-one,B\n", "record 3 is about c-one, who came before"), ("id,name\nc-four,A\n", "has a name for c-four, who is no candidate"),
+        ("id,name\nc-one,A\nc-one,B\n", "record 3 repeats c-one"), ("contest,id,name\n8,c-one,A\n", "has no names for the candidates of contest 7"),
+        ("contest,id,name\n7,c-one,A\n7,c-one,B\n", "record 3 repeats c-one"), ("id,name\nc-four,A\n", "has a name for c-four, who isn't a candidate"),
         ("id,name\nc-one,A\nc-two,A\n", "record 2 calls c-one A, and record 3 calls c-two A; these names look alike"),
         ("id,name\nc-one,c-two\n", "calls c-one c-two, and has no name for c-two; both look alike"), ("id,name\nc-one,C-Two\n", "calls c-one C-Two, and has no name for c-two"),
         ("id,name\nc-one,Zo\u00eb\nc-two,Zoe\u0308\n", "these names look alike (case, blanks and letter forms don't count): give each another one, such as Zoe\u0308 (c-two)"),

@@ -52,7 +52,7 @@ HELPERS = {"refused", "told", "broken", "no_xml", "error"}  # what they are call
 NOT_AN_OFFICE = ("release.py",)  # for those who make releases; acceptance/release.py tries it
 UNREACHED = {  # what only a fault of the machine, of a library or of another program brings about
     "called.py: … doesn't begin with a line id,name or contest,id,name",  # of ./raire show; acceptance/page.py tries it
-    "convert_seen.py: … | no comma-separated text: …",
+    "convert_seen.py: … | not comma-separated text: …",
     "ask.py: … | …: there is no program to ask", "convert_files.py: … | …: …: …",
     "export.py: … | …: the form … has no assertion of kind …",
     "cards.py: templates are missing: apt-get install python3-jinja2",

@@ -39,7 +39,7 @@ def unpacked(path, place):
             unzip(path, unzipped)
             take_out(path, unzipped, place)
     except (tarfile.TarError, zlib.error, EOFError, ValueError, OverflowError) as fault:
-        raise Unusable(f"{path}: is no bundle of a desk, or is damaged: {fault}; get it from its source again") from None
+        raise Unusable(f"{path}: isn't a desk's bundle, or is damaged: {fault}; get it from its source again") from None
     except OSError as fault:
         raise Unusable(f"{path}: can't be read as a bundle of a desk: {fault.strerror or fault}") from None
     return place
@@ -68,7 +68,7 @@ def take_out(path, archive, place):
             name = entry.name.removeprefix(f"{bundle.FOLDER}/")
             is_plain = entry.type == tarfile.REGTYPE and (record.FILE.fullmatch(name) or name in (record.NAME, bundle.PAGE))
             if not is_plain or number >= MOST_BUNDLE_FILES:
-                raise Unusable(f"{path}: is no bundle of a desk: it has {entry.name!r}")
+                raise Unusable(f"{path}: isn't a desk's bundle: it has {entry.name!r}")
             with open(os.path.join(place, name), "xb") as file:
                 shutil.copyfileobj(tar.extractfile(entry), file)
         archive.seek(tar.offset)
@@ -126,7 +126,7 @@ class Again:
             except Refused as refused:
                 self.made.update(dict.fromkeys(line.made, f"{refused.line} ended with status {refused.status}, and it was {line.status}"))
             except OSError as fault:
-                self.made.update(dict.fromkeys(line.made, fault.strerror))
+                self.made.update(dict.fromkeys(line.made, f"{os.path.basename(fault.filename)}: {fault.strerror}" if fault.filename else fault.strerror))
 
     def given(self, line):
         path, own = os.path.join(self.source, line.name), self.runner.fresh(line.name)

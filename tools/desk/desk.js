@@ -85,6 +85,10 @@ function pressed(event, form) {
 
 // ---- what a page begins with
 
+// A page that answers a form has the form's address. Whoever comes back to it, or loads it again, gets the page of the step as it is then.
+const isOfForm = /\/(do|preview|back|try|begin|take|sheet)$/.test(location.pathname);
+if (isOfForm) history.replaceState(null, "", location.pathname);
+
 function begin() {
     document.querySelectorAll("form.do").forEach((form) => form.addEventListener("submit", (event) => {
         if (!hasFile(form)) return;

@@ -32,19 +32,20 @@ class Desk:
         self.folder, self.lock = folder, threading.Lock()
         self.drafting = threading.Lock()  # one reading at a time goes into a draft
         self.runner = self.thread = self.notice = self.step = None  # of the last deed
+        self.filled_in = {}  # the fields of its form
         self.shown = {}  # answers that are looked at and belong to no file, by step
 
     def is_busy(self):
         return self.lock.locked()
 
-    def begin(self, step, version, lines, replaces=False, then=None, is_kept=True):
+    def begin(self, step, version, lines, replaces=False, then=None, is_kept=True, filled_in=None):
         """Does a deed: takes its uploads, and then runs its commands in a thread. `replaces` says that it takes the place of the last deed."""
         if not self.lock.acquire(blocking=False):
             raise Busy
         try:
             if version != self.folder.version:
                 raise Outdated
-            self.notice, self.step = None, step
+            self.notice, self.step, self.filled_in = None, step, filled_in or {}
             base = self.folder.record[:-1] if replaces else self.folder.record
             deed = Deed(self, step, base, lines, then, is_kept)
             self.runner = deed.runner

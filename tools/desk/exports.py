@@ -54,20 +54,20 @@ RULES = {
 OF_RANKS = ("overvotes", "skips", "repeats", "ranks")  # what has no meaning unless candidates are ranked
 OF_SOME = ("marks", "counts", "id", "sheet", "title", "batch", "word", "seats")  # what has no meaning for some forms
 OPTIONS = {
-    "contest": Option("Contests, by name or id", "One in each line. Left out: all that the export says are ranked. Clear Ballot needs them.", True),
+    "contest": Option("Contests, by name or id", "One in each line. Default: all that the export says are ranked. Clear Ballot needs them.", True),
     "id": Option(
         "What the id of a card is made of",
         "Clear Ballot, NIST, ES&S, RCTab and plain sheets: columns with commas between, such as Batch,Card. The manifest has to have these ids.",
     ),
     "cards": Option("Number of cards that the vendor’s system reports", "If another number is read, the export is refused."),
-    "ranks": Option("Highest rank of a ballot", "Left out: what a Dominion export says, and no more than the contest has candidates."),
+    "ranks": Option("Highest rank of a ballot", "Default: what a Dominion export says, and no more than the contest has candidates."),
     "seats": Option("Seats", "Hart, if a contest for each winner and each loser is made: how many the contest elects."),
     "without": Option("Candidates who withdrew", "One in each line, by name or id. They are passed over on each ballot.", True),
     "word": Option(
-        "What cells stand for",
+        "What cells mean",
         "ES&S, RCTab, plain sheets and PrefLib, one in each line, such as over vote=overvote. A refusal says which ones are needed.", True,
     ),
-    "sheet": Option("Sheet of a workbook", "ES&S, RCTab and plain sheets. Left out: the only one."),
+    "sheet": Option("Sheet of a workbook", "ES&S, RCTab and plain sheets. Default: the only one."),
     "title": Option("What the contest is called", "RCTab and plain sheets, which don’t say it; PrefLib."),
     "batch": Option("Batch of the ballots", "PrefLib, whose ballots have no ids."),
 }

@@ -122,7 +122,7 @@ class Folder:
     def see_undamaged(self):
         """Nothing is built on files that somebody changed."""
         if damaged := self.damaged():
-            raise Unusable(f"{self.path}: not as {record.NAME} says: {', '.join(damaged)}; take the folder from a copy")
+            raise Unusable(f"{self.path}: not as {record.NAME} says: {', '.join(damaged)}; restore the folder from a copy")
 
     # ---- what the folder has
 

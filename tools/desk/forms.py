@@ -38,7 +38,7 @@ class Form:
     def number(self, name, what, low, high):
         text = self.values.get(name, "").strip()
         if not WHOLE.fullmatch(text):
-            advice = " Commas stand only between thousands, such as 1,200." if "," in text else ""
+            advice = " Use commas only between thousands, as in 1,200." if "," in text else ""
             raise Wrong(f"{what} is a whole number from {low:,} to {high:,}.{advice}")
         number = int(text.replace(",", ""))
         if not low <= number <= high:

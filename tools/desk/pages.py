@@ -24,6 +24,7 @@ STYLES = {"style.css": os.path.join(os.path.dirname(HERE), "page"), "desk.css": 
 MOST_EXPORT_BYTES = 1 << 30
 MOST_FORM_BYTES = 1 << 20
 MOST_BYTES = {"/step/records/do": MOST_EXPORT_BYTES, "/step/cards/do": MOST_FILE_BYTES, "/step/count/do": MOST_FILE_BYTES, "/sheet": MOST_FILE_BYTES}
+FORMS, FORMS_OF_READINGS = ("do", "preview", "back", "try"), ("begin", "take", "sheet")  # how their addresses end
 ROOM = 1 << 16  # of a body, besides its file
 werkzeug.formparser.RequestEntityTooLarge = RequestEntityTooLarge  # the distribution's 2.2.2 raises it there, and doesn't import it
 TYPES = {".html": "text/html", ".zip": "application/zip"}
@@ -64,7 +65,8 @@ class Pages:
             ("/read/<int:number>/<reader>", self.card, get), ("/step/<name>/do", self.do, post), ("/step/<name>/preview", self.preview, post),
             ("/step/<name>/back", self.take_back, post), ("/step/plan/try", self.try_plans, post), ("/stop", self.stop, post),
             ("/read/<int:number>/<reader>/begin", self.begin_reading, post), ("/read/<int:number>/<reader>/take", self.take_reading, post),
-            ("/read/<int:number>/<reader>/sheet", self.take_sheet, post),
+            ("/read/<int:number>/<reader>/sheet", self.take_sheet, post), ("/step/<name>/<end>", self.step_of_form, get),
+            ("/read/<int:number>/<reader>/<end>", self.card_of_form, get),
         ]
 
     # ---- what is looked at
@@ -87,15 +89,28 @@ class Pages:
         flow = Flow(audit)
         return audit, flow, flow.find(name) or flask.abort(404)
 
-    def step(self, name, wrong=None, status=200):
+    def step(self, name, wrong=None, status=200, filled_in=None):
         if self.desk.is_busy():
             return flask.redirect("/running", 303)
         audit, flow, step = self.found(name)
         if wrong:
             self.desk.drop_notice(name)  # what is said last is said alone
         notice = self.desk.notice if self.desk.notice and self.desk.notice.step == name else None
-        parts = {"step": step, "wrong": wrong, "notice": notice, "told": told, "values": flask.request.form if wrong else {}}
+        values = filled_in or (self.desk.filled_in if notice else {})
+        parts = {"step": step, "wrong": wrong, "notice": notice, "told": told, "values": values}
         return self.shown(f"steps/{step.key}.html.j2", audit, flow, **parts), status
+
+    def step_of_form(self, name, end):
+        """The address of a form, asked for by a browser that goes back or begins again: the page that has the form."""
+        if end not in FORMS:
+            flask.abort(404)
+        return flask.redirect(f"/step/{self.found(name)[2].name}", 303)
+
+    def card_of_form(self, number, reader, end):
+        if end not in FORMS_OF_READINGS:
+            flask.abort(404)
+        self.drafts(number, reader)
+        return flask.redirect(f"/read/{number}/{reader}", 303)
 
     def running(self):
         if not self.desk.is_busy():
@@ -138,12 +153,12 @@ class Pages:
         try:
             lines = step.lines(form)
         except Wrong as wrong:
-            return self.step(name, wrong=str(wrong), status=400)
+            return self.step(name, wrong=str(wrong), status=400, filled_in=form.values)
         self.begin(step, lines, then=lambda deed: step.finish())
         return flask.redirect("/running" if self.desk.is_busy() else f"/step/{name}", 303)
 
     def begin(self, step, lines, **given):
-        self.desk.begin(step.name, flask.request.form.get("version", ""), lines, replaces=step.is_done, **given)
+        self.desk.begin(step.name, flask.request.form.get("version", ""), lines, replaces=step.is_done, filled_in=flask.request.form, **given)
 
     def preview(self, name):
         """Terms, a seed or a number of draws, once more before they are fixed."""
@@ -151,10 +166,12 @@ class Pages:
         audit, flow, step = self.found(name)
         if not flow.may_do(step) or not isinstance(step, (Terms, Seed, Fetch)):
             raise Outdated
+        if "change" in form.values:
+            return self.step(name, filled_in=form.values)
         try:
             preview = step.preview(form)
         except Wrong as wrong:
-            return self.step(name, wrong=str(wrong), status=400)
+            return self.step(name, wrong=str(wrong), status=400, filled_in=form.values)
         return self.shown("preview.html.j2", audit, flow, step=step, preview=preview, values=flask.request.form)
 
     def try_plans(self):
@@ -197,6 +214,8 @@ class Pages:
             return flask.redirect(f"/step/{step.name}", 303)
         if not draft.person:
             return self.shown("reader.html.j2", audit, flow, step=step, reader=reader, wrong=wrong), status
+        if not (card or wrong or "card" in flask.request.args):  # a card has its own address, so that a browser that goes back shows no other one
+            return flask.redirect(address_of(number, reader, draft.card("")), 303)
         card = draft.card(card or flask.request.args.get("card", ""))
         values = flask.request.form if wrong else {}
         parts = {"step": step, "reader": reader, "draft": draft, "card": card, "wrong": wrong, "values": values, "was": readings.mark_of(draft.of(card.id))}
@@ -230,7 +249,7 @@ class Pages:
                 return self.card(number, reader, wrong=str(wrong), status=400, card=card.id)
             self.keep(draft, step)
         following = draft.next(card.id)
-        return flask.redirect(f"/read/{number}/{reader}?card={urllib.parse.quote(following.id)}" if following else f"/step/{step.name}", 303)
+        return flask.redirect(address_of(number, reader, following) if following else f"/step/{step.name}", 303)
 
     def keep(self, draft, step):
         """Keeps a draft. What was said of readings that differ isn't said any longer once none do."""
@@ -261,6 +280,10 @@ class Pages:
         if status == 500:
             self.app.logger.error("a fault of the desk", exc_info=fault)
         return flask.render_template("failed.html.j2", status=status, text=text), status
+
+
+def address_of(number, reader, card):
+    return f"/read/{number}/{reader}?card={urllib.parse.quote(card.id)}"
 
 
 def reply_of(fault):

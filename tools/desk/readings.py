@@ -147,9 +147,9 @@ def readings_in(text, draft):
     for at, (card, contest, word, *ranked) in enumerate(rows_of(text, draft.contests), 1):
         ranked = list(dict.fromkeys(filter(None, ranked)))
         if card and card not in cards:
-            raise Wrong(f"Record {at}: {card} is no card of this round.")
+            raise Wrong(f"Record {at}: {card} isn't a card of this round.")
         if card and contest not in ids:
-            raise Wrong(f"Record {at}: {contest or 'nothing'} is no contest of this audit. The contests are {', '.join(ids)}.")
+            raise Wrong(f"Record {at}: {contest or 'nothing'} isn't a contest of this audit. The contests are {', '.join(ids)}.")
         if contest in found.get(card, {}):
             raise Wrong(f"Record {at}: {card} is listed twice{f' for {contest}' if len(ids) > 1 else ''}.")
         if word or ranked:
@@ -163,7 +163,7 @@ def readings_in(text, draft):
 def reading_of_contests(card, found, contests):
     """The reading of a card, whose contests are all read, or all missing."""
     if left := [name for name in contests if name not in found]:
-        raise Wrong(f"{card} has no reading for {left[0]}. Write a record for each contest, also if the card doesn’t have it.")
+        raise Wrong(f"{card} has no reading for {left[0]}. Write a record for each contest, even if the card doesn’t have it.")
     missing = [name for name in contests if found[name] == MISSING]
     if missing and len(missing) < len(contests):
         raise Wrong(f"{card} is missing for {missing[0]} and read for another contest. A card that can’t be found is missing in each.")
@@ -186,7 +186,7 @@ def see_reading(at, card, word, ranked, candidates):
     if not card or word not in ("ballot", MISSING) or (word == MISSING and ranked):
         raise Wrong(f"Record {at}: after {card or 'the card'}, write either ballot and the ranked candidates, or only missing.")
     if strangers := [name for name in ranked if name not in candidates]:
-        raise Wrong(f"Record {at}: {strangers[0]} is no candidate. The candidates are {', '.join(candidates)}.")
+        raise Wrong(f"Record {at}: {strangers[0]} isn't a candidate. The candidates are {', '.join(candidates)}.")
 
 
 def differences(drafts):

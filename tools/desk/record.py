@@ -129,7 +129,8 @@ def record_of(text):
     head = HEAD.count("\n")
     if not text.startswith(HEAD):
         is_older = text.startswith("\n".join(HEAD.split("\n", 2)[:2]))
-        raise Broken(1, "another version of the desk wrote this: continue with that version, or by hand" if is_older else "this is no commands.txt of a desk")
+        older = "another version of the desk wrote this: continue with that version, or by hand"
+        raise Broken(1, older if is_older else "this isn't the commands.txt of a desk")
     record, lines = [], list(enumerate(text.split("\n")[head:], head + 1))
     while lines and not lines[0][1].startswith(END):
         at, line = lines.pop(0)
@@ -186,10 +187,10 @@ def command_of(at, words, status, made):
     *words, arrow, out = words if len(words) > 3 else ["", "", "", ""]
     is_of_program = words[0] == PROGRAM and words[1] in COMMANDS
     if arrow != ">" or not (is_of_program or words[0] in PUT_TOGETHER):
-        raise Broken(at, "is no command that a desk types")
+        raise Broken(at, "isn't a command that a desk types")
     outs = [] if out == NOWHERE else [out]
     if not all(map(is_file_of_folder, [*file_words(words), *outs])):
-        raise Broken(at, "names a file that is none of the folder")
+        raise Broken(at, "names a file that isn't in the folder")
     if list(made)[:1] != outs:
         raise Broken(at, "made another file than it says")
     return Command(tuple(words), None if out == NOWHERE else out, status, made)

@@ -99,6 +99,10 @@ class Count(Step):
     def round(self):
         return self.audit.rounds()[self.number - 1]
 
+    def advised(self):
+        """The number of draws that the terms have after this round; None if they have no more."""
+        return next((draws for draws in self.audit.planned_rounds() if draws > self.round().draws), None)
+
     def lines(self, form):
         return calls.round_of(self.audit, self.round())
 

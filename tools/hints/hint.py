@@ -139,8 +139,8 @@ def spent(call):
     name = "sets" if "sets" in options else "nodes"
     most = options[name].high
     if int(call.options.get(name, "0")) == most:
-        return [f"spent: --{name} {most} is the most there may be", "What to do: docs/faults.md"]
-    told = "it counts sets of candidates, in place of --nodes, and up to 20 candidates it is never spent" if name == "sets" else "it is the most there may be"
+        return [f"spent: --{name} {most} is the maximum", "What to do: docs/faults.md"]
+    told = "it counts sets of candidates, in place of --nodes, and up to 20 candidates it is never spent" if name == "sets" else "it is the maximum"
     return [f"spent: give it --{name} {most}; {told}", "What to do: docs/faults.md"]
 
 

@@ -30,7 +30,7 @@ def nearest(text, names):
 def meant(text, names, else_told, dashes=""):
     """What is nearly right, or what else is told."""
     near = nearest(text, names)
-    return f"nearly right is {quoted(dashes + near)}" if near else else_told
+    return f"the closest match is {quoted(dashes + near)}" if near else else_told
 
 
 def in_plain_letters(text):
@@ -47,6 +47,6 @@ def why_no_id(text, most=MOST_NAME_BYTES):
     if text == "":
         return "The id is empty"
     if len(text) > most:
-        return f"{quoted(text)} has {len(text)} bytes, and {most} are the most"
+        return f"{quoted(text)} has {len(text)} bytes; the limit is {most}"
     plain = in_plain_letters(text)
-    return f"{quoted(text)} is no id" + (f'; "{plain}" would be one' if plain else "")
+    return f"{quoted(text)} isn't an id" + (f'; "{plain}" would be one' if plain else "")

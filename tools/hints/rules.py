@@ -73,9 +73,9 @@ def nearly_a_manifest(record, wanted):
     words, more = (record.fields[:2], record.fields[2:]) if record else ([], [])
     if wanted != "a manifest" or [word.lower() for word in words] != ["batch", "cards"]:
         return ""
-    told = "" if words == ["batch", "cards"] else "; its letters have to be small"
+    told = "" if words == ["batch", "cards"] else "; it has to be in lowercase"
     if more and not any(more):
-        return told + ("; there is a comma too many" if len(more) == 1 else f"; there are {len(more)} commas too many") + " after cards"
+        return told + ("; there is an extra comma" if len(more) == 1 else f"; there are {len(more)} extra commas") + " after cards"
     return told + (f"; {quoted(','.join(more))} comes after them" if more else "")
 
 
@@ -125,11 +125,11 @@ def contest_record(data, at):
         return [f"The file ends before record {at}"]
     fields = record.fields
     if fields[0] != "Contest":
-        told = f'{quoted(fields[0])} is in the place of "Contest"' + semicolons(record)
+        told = f'{quoted(fields[0])} is in place of "Contest"' + semicolons(record)
     elif len(fields) < 3:
         told = f"It has {len(fields)} fields; it needs at least 3"
     else:
-        told = f"{quoted(fields[1])} came before"
+        told = f"{quoted(fields[1])} is repeated"
     return [told, where(record)]
 
 
@@ -138,7 +138,7 @@ def number_of_candidates(data, at):
     record = record_at(data, at)
     fields = record.fields
     if not is_number(fields[2], 1, 10**9):
-        told = f"{quoted(fields[2])} is no number of candidates"
+        told = f"{quoted(fields[2])} isn't a number of candidates"
     elif len(fields) - 3 < int(fields[2]):
         told = f"It says {plural(int(fields[2]), 'candidate')}, and {plural(len(fields) - 3, 'id')} follow{'s' * (len(fields) == 4)}"
     else:
@@ -163,7 +163,7 @@ def contest_asked_for(data, asked):
     heads = heads_of(data)
     told = f"The file has the contests {listed(list(heads))}"
     if asked is None:
-        return [told, "--contest says which is meant"]
+        return [told, "Name one with --contest"]
     near = meant(asked, heads, "")
     return [told, f"{quoted(asked)} is none of them" + (f"; {near}" if near else "")]
 
@@ -188,7 +188,7 @@ def other_contest(data, at):
 
 def is_none(what, text, names, who_has):
     near = nearest(text, names)
-    return f"{quoted(text)} is no {what}; {who_has} " + (quoted(near) if near else listed(list(names)))
+    return f"{quoted(text)} isn't a {what}; {who_has} " + (quoted(near) if near else listed(list(names)))
 
 
 def no_candidate(record, preferences, ids):
@@ -247,7 +247,7 @@ def batch_cards(data, at):
     record = record_at(data, at)
     plain = re.sub("[^0-9]", "", record.fields[1])
     near = plain and plain != record.fields[1] and is_number(plain, 1, 10**9)
-    told = f"{quoted(record.fields[1])} is no number of cards" + (f"; {plain} would be one" if near else "")
+    told = f"{quoted(record.fields[1])} isn't a number of cards" + (f"; {plain} would be one" if near else "")
     return [told, where(record)]
 
 
@@ -270,12 +270,12 @@ def no_card(name, batches):
     """Why no card of these batches has this id: M7 and V2."""
     batch, _, number = name.rpartition("_")
     if not batch:
-        return f"{quoted(name)} is no id of a card: that is batch, _ and number"
+        return f"{quoted(name)} isn't an id of a card: that is batch, _ and number"
     if batch not in batches:
         return is_none("batch", batch, batches, "the manifest has")
     plain = number.lstrip("0")
     if plain != number and is_number(plain, 1, batches[batch]):
-        return f"{quoted(name)} has a zero in front of its number; there is {quoted(f'{batch}_{plain}')}"
+        return f"{quoted(name)} has a leading zero in its number; the card is {quoted(f'{batch}_{plain}')}"
     many = "s, and {} is none of their numbers" if batches[batch] > 1 else ", and {} isn't its number"
     return f"{quoted(batch)} has {batches[batch]} card" + many.format(quoted(number))
 
@@ -299,7 +299,7 @@ def seen_record(data, at, has_contest):
         told = f"It has {plural(len(fields), 'field')}" + ("; it needs at least 3" if has_contest else "") + semicolons(record)
     elif fields[1 + has_contest] not in WORDS:
         word = fields[1 + has_contest]
-        told = f"{quoted(word)} is no word of a seen card; {meant(word, WORDS, 'they are ' + listed(WORDS))}"
+        told = f"{quoted(word)} isn't a word of a seen card; {meant(word, WORDS, 'the words are ' + listed(WORDS))}"
     else:
         told = f"{quoted(next(text for text in fields[2 + has_contest:] if text))} comes after missing"
     return [told, where(record)]
@@ -339,7 +339,7 @@ def other_draws(seed, read, drawn):
     if 2 * len(drawn.keys() - read) <= len(drawn):
         return []
     shown = quoted(seed.replace(" ", BLANK)) + f", where each {BLANK} is a blank" * (" " in seed)
-    return [f"Most drawn cards aren't read. If they should be, the seed or the manifest is another one. The seed is {shown}"]
+    return [f"Most drawn cards aren't read. If they should be, check the seed and the manifest. The seed is {shown}"]
 
 
 def told_unread(left, drawn, of):
@@ -388,7 +388,7 @@ def no_json(data, wanted):
         return [f"Byte {fault.start + 1} isn't UTF-8"]
     except json.JSONDecodeError as fault:
         cut = fault.pos >= len(data.decode("utf-8").rstrip())
-        return ["The file ends before the object does" if cut else f"It is no JSON from line {fault.lineno}, character {fault.colno} on"]
+        return ["The file ends before the object does" if cut else f"It isn't JSON: see line {fault.lineno}, character {fault.colno}"]
     except RecursionError:
         pass
     return []
@@ -627,7 +627,7 @@ def no_such_file(path):
     if not os.path.isdir(folder):
         return [f"There is no folder {quoted(folder)}"]
     near = nearest(os.path.basename(path), sorted(os.listdir(folder)))
-    return [f"Nearly right is {quoted(os.path.join(os.path.dirname(path), near))}"] if near else []
+    return [f"The closest match is {quoted(os.path.join(os.path.dirname(path), near))}"] if near else []
 
 
 def unreadable(path):
@@ -642,9 +642,9 @@ def unreadable(path):
 
 def why_unreadable(path, fault):
     told = {
-        errno.EISDIR: "It is a folder", errno.ENOTDIR: f"{quoted(file_before(path))} is a file, and no folder",
-        errno.EACCES: "You have no right to read it, or to go through a folder of its path", errno.EPERM: "You have no right to read it",
-        errno.ENAMETOOLONG: "Its name is longer than the system takes", errno.ELOOP: "Its links lead in a circle, or are more than the system follows",
+        errno.EISDIR: "It is a folder", errno.ENOTDIR: f"{quoted(file_before(path))} is a file, not a folder",
+        errno.EACCES: "You don't have permission to read it, or to go through a folder of its path", errno.EPERM: "You don't have permission to read it",
+        errno.ENAMETOOLONG: "Its name is longer than the system allows", errno.ELOOP: "Its links form a loop, or there are too many",
     }
     return told.get(fault, f"The system says: {os.strerror(fault)}")
 
@@ -658,4 +658,4 @@ def file_before(path):
 
 
 def size(path):
-    return [f"It has {os.path.getsize(path)} bytes, and {most_of('MOST_FILE_BYTES')} are the most"]
+    return [f"It has {os.path.getsize(path)} bytes; the limit is {most_of('MOST_FILE_BYTES')}"]

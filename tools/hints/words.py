@@ -88,7 +88,7 @@ def call_of(words):
     commands = forms()
     if not words or words[0] not in commands:
         told = quoted(words[0]) if words else "nothing"
-        raise Wrong(f"{told} is no command; " + meant(words[0] if words else "", [*commands, *tools()], "they are " + ", ".join(commands)))
+        raise Wrong(f"{told} isn't a command; " + meant(words[0] if words else "", [*commands, *tools()], "the commands are " + ", ".join(commands)))
     wrong = []
     for form in sorted(commands[words[0]], key=lambda form: likeness(form, words[1:]), reverse=True):
         try:
@@ -152,19 +152,19 @@ def option_in(word, rest, command, form):
     """The option of this word with its value, which may be the next word."""
     name, has_value, text = word[2:].partition("=")
     if word in ("--help", "-h"):
-        raise Wrong(f"{quoted(word)} is no option of {command}; its page: ./raire help {command}")
+        raise Wrong(f"{quoted(word)} isn't an option of {command}; its page: ./raire help {command}")
     if word == "-":
-        raise Wrong('"-" is no file; standard input is the file /dev/stdin')
+        raise Wrong('"-" isn\'t a file; standard input is the file /dev/stdin')
     if not word.startswith("--") or name not in form.options:
         for flag in (other for other, option in form.options.items() if option.is_flag):
             if word.startswith("--") and any(name in other.options for other in forms()[command]):
-                raise Wrong(f"--{name} is no option of a line with --{flag}")
-        all_told = "it has " + (", ".join(f"--{name}" for name in form.options) or "none")
+                raise Wrong(f"--{name} isn't an option of a line with --{flag}")
+        all_told = "its options are " + ", ".join(f"--{name}" for name in form.options) if form.options else "it has no options"
         bare = name.strip("-")
         every = list(dict.fromkeys([*form.options, *(other for one in forms()[command] for other in one.options)]))
-        told = f'nearly right is "--{bare}"' if bare in form.options else meant(bare, every, all_told, "--")
+        told = f'the closest match is "--{bare}"' if bare in form.options else meant(bare, every, all_told, "--")
         file = f"; the file of this name is {quoted(f'./{word}')}" if os.path.exists(word) else ""
-        raise Wrong(f"{quoted(word)} is no option of {command}; {told}{file}")
+        raise Wrong(f"{quoted(word)} isn't an option of {command}; {told}{file}")
     option = form.options[name]
     if option.is_flag:
         if has_value:
@@ -178,7 +178,7 @@ def option_in(word, rest, command, form):
         span = {"contest": "an id", "seed": f"{option.low} to {option.high} characters from space to ~",
                 "limit": f"{option.low} to {option.high} millionths, such as 50000 for 5 percent", "gamma": f"{option.low} to {option.high} thousandths"}
         told = " or ".join([span.get(name, f"{option.low} to {option.high}"), *option.words])
-        raise Wrong(f"{quoted(text)} is no value of --{name}, which is {told}")
+        raise Wrong(f"{quoted(text)} isn't a value of --{name}, which is {told}")
     return name, text
 
 
@@ -189,7 +189,7 @@ def judge_files(files, command, form, options):
         more = files[len(form.files)]
         quotes = '; a seed of several words needs quotes, as in --seed "2 6 1 4"' if "seed" in options else ""
         quotes += "".join(f"; a name with blanks needs quotes: {quoted(name)}" for name in split_names(files)[:1])
-        raise Wrong(f"{quoted(more)} is a word too many: {command} takes {told_files(form)}{quotes}")
+        raise Wrong(f"{quoted(more)} is one word too many: {command} takes {told_files(form)}{quotes}")
     if len(files) < len(form.files):
         few = f"{len(files)} of these {'is' if len(files) == 1 else 'are'}" if files else "none of these is"
         raise Wrong(f"{command} takes {told_files(form)}, and {few} here")

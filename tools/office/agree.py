@@ -45,7 +45,7 @@ def names_of(given, ids):
         found = called.Called(given.names, read(NAME, given.names))
         contest = given.contest if given.contest is not None else next(iter(found.candidates), None)
         if found.has_contests and given.contest is None and len(found.candidates) > 1:
-            raise Refusal(2, f"{NAME}: {given.names} has several contests; --contest says which is meant\n")
+            raise Refusal(2, f"{NAME}: {given.names} has several contests; name one with --contest\n")
         if not found.of(contest):
             raise Refusal(2, f"{NAME}: {given.names} has no candidates of contest {contest}\n")
         return found.of(contest, ids)

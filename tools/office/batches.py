@@ -8,7 +8,7 @@ from words import see_output, Words
 
 NAME = "batches"
 STANDS_IN = "--seed=1"  # of a session that is opened to have the files judged, and then thrown away
-PREMISE = "A batch that is left out can't have the contest, whatever its records say: for each of them this is for the office to know."
+PREMISE = "Make sure that no batch that is left out can have the contest, whatever its records say."
 
 
 def words_of(words):

@@ -32,7 +32,7 @@ class Called:
         names = self.contests if is_of_contest else self.candidates.setdefault(of[0] if of else None, {})
         key = of[0] if is_of_contest else key
         if key in names:
-            raise BadNames(f"{self.path}: record {at} is about {key}, {'which' if is_of_contest else 'who'} came before")
+            raise BadNames(f"{self.path}: record {at} repeats {key}")
         names[key] = name
         if not is_of_contest:
             self.see_looks(at, of[0] if of else None, key, name)

@@ -35,7 +35,7 @@ def words_of(words):
     given = parser.parse_args(words)
     see_draws(parser, given)
     if sum(getattr(given, form) for form in FORMS) > 1:
-        parser.error("--page, --sheet and --entry are asked for one at a time")
+        parser.error("give only one of --page, --sheet and --entry")
     if given.entry != (given.ballots is not None or given.names is not None):
         parser.error("--entry needs the candidates: --ballots or --names" if given.entry else "--ballots and --names are for --entry")
     for name in ("contest", "ranks", "marks"):
@@ -119,18 +119,18 @@ def places_of(given):
         if at == 1 and row == ["batch", "place"]:
             continue
         if len(row) != 2 or not all(row):
-            raise broken(given.places, at, "is no batch with its place")
+            raise broken(given.places, at, "isn't a batch with its place")
         if row[0] not in batches:
             raise broken(given.places, at, f"is about {row[0]}, and {given.manifest} has no such batch")
         if row[0] in places:
-            raise broken(given.places, at, f"is about {row[0]}, which came before")
+            raise broken(given.places, at, f"repeats {row[0]}")
         places[row[0]] = row[1]
     return places
 
 
 def place_of(places, batch, given):
     if places is not None and batch not in places:
-        raise Refusal(2, f"{NAME}: {given.places}: there is no place of {batch}, of which a card is listed\n")
+        raise Refusal(2, f"{NAME}: {given.places}: no place for batch {batch}, which has a listed card\n")
     return None if places is None else places[batch]
 
 
@@ -151,7 +151,7 @@ def names_of(given, contest, ids):
         found = called.Called(given.names, read(NAME, given.names))
         if found.has_contests and contest is None:
             if len(found.candidates) > 1:
-                raise Refusal(2, f"{NAME}: {given.names} has several contests; --contest says which is meant\n")
+                raise Refusal(2, f"{NAME}: {given.names} has several contests; name one with --contest\n")
             contest = next(iter(found.candidates), None)
         return found.of(contest, ids), contest and found.contest(contest)
     except called.BadNames as bad:
@@ -234,7 +234,7 @@ def entry(given, cards):
     if not cards:
         raise told(f"there is no card to read: {plural(before(given), 'draw')} took all of them")
     if len(cards) > MOST_ON_A_PAGE:
-        raise told(f"{plural(len(cards), 'card')} are more than a page has, which is {MOST_ON_A_PAGE:,}")
+        raise told(f"{plural(len(cards), 'card')} are more than a page holds, which is {MOST_ON_A_PAGE:,}")
     contest, candidates = candidates_of(given)
     ranks = len(candidates) if given.ranks is None else int(given.ranks)
     data = {

@@ -58,7 +58,7 @@ def words_of(words):
     given = parser.parse_intermixed_args(words)
     for name in SOME:
         if getattr(given, name) not in (None, []) and name not in FORMATS[given.format][1]:
-            parser.error(f"--{name} has no meaning for {given.format}")
+            parser.error(f"--{name} doesn't apply to {given.format}")
     if "" in [*given.files, *given.contest, *given.word, *given.without, *(getattr(given, name) for name in VALUES)]:
         parser.error("a word is empty")
     given.made = getattr(given, "as") or RANKED
@@ -76,13 +76,13 @@ def see_rules(parser, given):
     """Rules of ranks are for contests whose candidates are ranked, and the seats for those of several."""
     for name in (*OF_RANKS, "ranks"):
         if given.made != RANKED and getattr(given, name) is not None:
-            parser.error(f"--{name} has no meaning with --as {given.made}")
+            parser.error(f"--{name} doesn't apply with --as {given.made}")
     if given.seats is not None and given.made != PAIRS:
         parser.error("--seats is for --as pairs")
     if given.format == "marks" and given.made == PAIRS and given.seats is None:
         parser.error("marks of pairs need --seats: how many the contest elects")
     if given.marks == "made" and given.counts is not None:
-        parser.error("--counts has no meaning with --marks made, which takes marks whatever the export counts")
+        parser.error("--counts doesn't apply with --marks made, which takes marks whatever the export counts")
     if given.format in ("seen", "marks") and given.ballots is None:
         parser.error(f"{given.format} needs the candidates: --ballots")
 
@@ -144,7 +144,8 @@ def see_kept(path, text, begins):
     with open(path, "rb") as file:
         data = file.read(MOST_FILE_BYTES)
     if data and data != text.encode(errors="surrogateescape") and not (begins and data.startswith(begins.encode())):
-        raise told(f"{path} is there already, and {'is no account' if begins else 'says something else'}; it would be lost")
+        what = "isn't an account" if begins else "has other content"
+        raise told(f"{path} already exists, and {what}; it would be lost")
 
 
 @contextlib.contextmanager

@@ -60,7 +60,7 @@ def of_contest(book, number):
     if not FEWEST_CANDIDATES <= len(listed) <= MOST_CANDIDATES:
         yield f"  warning: {len(listed)} candidates, and search takes {FEWEST_CANDIDATES} to {MOST_CANDIDATES} (B3)"
     if any(each.is_write_in for each in contest.candidates) and book.rules.write_ins == "drop":
-        yield "  warning: write-ins are no candidate here, so that an audit can't find that one of them won"
+        yield "  warning: write-ins aren't candidates here, so an audit can't find that one of them won"
 
 
 def of_ranks(book, counts):

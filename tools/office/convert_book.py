@@ -142,7 +142,7 @@ class Book:
         for word in self.without:
             if word not in found:
                 listed = "; ".join(each.name for contest in self.contests for each in contest.candidates)
-                raise refused(path, f"--without names {word}, who is no candidate; there are: {listed}")
+                raise refused(path, f"--without names {word}, who isn't a candidate; there are: {listed}")
 
     def out_of(self, number):
         """The candidates of a contest who withdrew."""

@@ -31,7 +31,7 @@ class Export(convert_columns.Export):
                 self.add_choice(place, column, found[1].strip(), found[3].strip(), None, why_not=UNKNOWN, seats=int(found[2]))
                 self.contests[found[1].strip()].says_kind = False
         if not self.contests:
-            raise refused(place, "no column begins with Choice_, which was looked for (Clear Ballot's form)")
+            raise refused(place, "no column begins with Choice_ (Clear Ballot's form)")
         wanted = self.options.id or OWN_ID
         missing = [name for name in wanted if name.lower() not in self.places]
         if missing:

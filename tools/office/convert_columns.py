@@ -6,7 +6,7 @@ from alike import HOW
 from convert_export import Candidate, Card, Contest, Place, refused, Vote
 from convert_sheet import WORDS
 
-NUMBERED = "a number from 0 on was looked for, or nothing where the card doesn't have the contest"
+NUMBERED = "a number from 0 up, or nothing if the card doesn't have the contest"
 
 
 def rows_of(source):
@@ -17,7 +17,7 @@ def rows_of(source):
             if any(row):
                 yield Place(source, "line", reader.line_num), [bare(cell) for cell in row]
     except csv.Error as fault:
-        raise refused(Place(source, "line", reader.line_num), f"no comma-separated line, or cut off: {fault}") from None
+        raise refused(Place(source, "line", reader.line_num), f"not comma-separated, or truncated: {fault}") from None
 
 
 def bare(cell):
@@ -42,7 +42,7 @@ class Export:
                 self.head = head
                 self.read_head(source, head)
             elif head != self.head:
-                raise refused(source, "has another head than the first file")
+                raise refused(source, "has a different header from the first file")
 
     def rows(self, source, rows, number):
         """The first rows of a file, each of which has to be there."""
@@ -102,5 +102,5 @@ class Export:
 
 def number_in(cell, place):
     if not (cell.isascii() and cell.isdigit()):
-        raise refused(place, f"is {cell}, where {NUMBERED}")
+        raise refused(place, f"is {cell}; expected {NUMBERED}")
     return int(cell)

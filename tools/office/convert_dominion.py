@@ -47,7 +47,7 @@ class Export:
         for source in (*lists.values(), *self.exports):
             found = convert_files.first(source, "Version")
             if type(found) is not str or not VERSION.fullmatch(found):
-                raise refused(source, f"Version is {found if found else 'missing'}; a Version 5 was looked for, such as 5.10.50.85")
+                raise refused(source, f"Version is {found if found else 'missing'}; expected a Version 5, such as 5.10.50.85")
 
     def see_parts(self):
         """The parts of an export are numbered from 0 or 1 on, without a gap; one without a number is the whole."""
@@ -99,7 +99,7 @@ class Export:
             for number, session in enumerate(convert_files.items(source, "Sessions.item"), 1):
                 yield self.card(session, Place(source, "session", number), taken)
             if number == 0:
-                raise refused(source, "has no sessions; a list Sessions was looked for, with one for each card")
+                raise refused(source, "has no sessions; expected a list Sessions, with one for each card")
 
     def card(self, session, place, taken):
         votes, stood = [], set()
@@ -121,7 +121,7 @@ class Export:
             raise refused(place, "has no Original")
         current = [name for name in versions if member(session[name], "IsCurrent", bool, place.at(name))]
         if len(current) != 1:
-            raise refused(place, f"{len(current)} of its versions ({', '.join(versions)}) have IsCurrent true, where one was looked for")
+            raise refused(place, f"{len(current)} of its versions ({', '.join(versions)}) have IsCurrent true; expected one")
         self.count("cards that were adjudicated: Modified was taken", current == ["Modified"])
         return contests_of(session[current[0]], place.at(current[0]))
 
@@ -140,7 +140,7 @@ class Export:
             self.count("ids whose RecordId is X: taken from ImageMask", 1)
         if not all(type(part) is int and part >= 0 for part in (tabulator, batch, record)):
             had = f"TabulatorId {tabulator}, BatchId {batch}, RecordId {record}"
-            raise refused(place, f"no id can be made of {had}: three whole numbers were looked for")
+            raise refused(place, f"no id can be made of {had}: expected three whole numbers")
         return f"{tabulator}_{batch}_{record}"
 
     def vote(self, vote, contest, place):
@@ -148,7 +148,7 @@ class Export:
         for mark in member(vote, "Marks", list, place):
             key, rank = str(member(mark, "CandidateId", int, place)), member(mark, "Rank", int, place)
             if key not in contest.numbers:
-                raise refused(place, f"CandidateId {key} is no candidate of the contest")
+                raise refused(place, f"CandidateId {key} isn't a candidate of the contest")
             is_clear, is_vote = not member(mark, "IsAmbiguous", bool, place), member(mark, "IsVote", bool, place)
             is_taken = is_clear if self.marks == "made" else is_vote
             if is_taken or is_clear:

@@ -22,7 +22,7 @@ class Export(convert_columns.Export):
         (place, first), *others = self.rows(source, rows, 4)
         if len(first) < 2 or not VERSION.fullmatch(first[1]):
             had = first[1] if len(first) > 1 and first[1] else "missing"
-            raise refused(place, f"the version, the second field, is {had}; a Version 5 was looked for, such as 5.10.50.85 (Dominion's CSV)")
+            raise refused(place, f"the version, the second field, is {had}; expected a Version 5, such as 5.10.50.85 (Dominion's CSV)")
         return [row for _, row in others]
 
     def read_head(self, source, head):
@@ -56,7 +56,7 @@ class Export(convert_columns.Export):
 
     def mark(self, marks, contest, number, rank, cell, place, column):
         if cell != "1":
-            raise refused(place, f"is {cell}, where 1 or 0 was looked for, or nothing where the card doesn't have the contest")
+            raise refused(place, f"is {cell}; expected 1, 0, or nothing if the card doesn't have the contest")
         add_mark(marks, rank or 1, contest.mark(number, column))
 
     def see_row(self, source, row, place):
@@ -85,5 +85,5 @@ class Export(convert_columns.Export):
             parts[2] = imprinted[2]
         if not all(part.isascii() and part.isdigit() for part in parts):
             had = ", ".join(f"{name} {part or 'nothing'}" for name, part in zip(KEYS.values(), parts))
-            raise refused(place, f"no id can be made of {had}: three whole numbers were looked for")
+            raise refused(place, f"no id can be made of {had}: expected three whole numbers")
         return "_".join(str(int(part)) for part in parts)

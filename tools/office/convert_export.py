@@ -84,8 +84,8 @@ def member(value, name, kind, place):
     """The member of an object of JSON, which has to be there and of this kind."""
     found = value.get(name) if type(value) is dict else None
     if type(found) is not kind:
-        had = "has no" if found is None else "has another kind of"
-        raise refused(place, f"{had} {name}, where {KINDS[kind]} was looked for")
+        had = "has no" if found is None else "has the wrong type for"
+        raise refused(place, f"{had} {name}; expected {KINDS[kind]}")
     return found
 
 
@@ -107,7 +107,7 @@ def chosen(contests, asked, made, path):
     taken = [contest for contest in contests if (contest.why_not is None if made == RANKED else is_unranked(contest, made))]
     if not taken:
         listed = "; ".join(f"{contest}: {contest.why_not or 'is ranked'}" for contest in contests)
-        raise refused(path, f"no contest to convert; --contest names one of: {listed or 'none'}")
+        raise refused(path, f"no contest to convert; name one with --contest: {listed or 'none'}")
     return taken
 
 
@@ -118,7 +118,7 @@ def is_unranked(contest, made):
 def see_kind(contest, made, path):
     """A contest that is named is of the kind that is made of it."""
     if made == RANKED and contest.seats not in (1, None):
-        raise refused(path, f"contest {contest} elects {contest.seats}, so it is no contest of instant runoff; --as pairs audits it by pairs of candidates")
+        raise refused(path, f"contest {contest} elects {contest.seats}, so it isn't an instant-runoff contest; --as pairs audits it by pairs of candidates")
     if made == RANKED and contest.most_rank == 0:
         raise refused(path, f"contest {contest} {contest.why_not}, so it has no order of candidates; --as plurality takes the one who is marked")
     if made == PLURALITY and contest.seats not in (1, None):

@@ -23,10 +23,10 @@ def faults(place):
     except FileNotFoundError:
         raise Refusal(12, f"{NAME}: {place}: no such file\n") from None
     except (zipfile.BadZipFile, zlib.error, EOFError, NotImplementedError, RuntimeError) as fault:
-        raise refused(place, f"no zip, or cut off: {first_line(fault)}") from None
+        raise refused(place, f"not a zip, or truncated: {first_line(fault)}") from None
     except OSError as fault:
         if fault.errno == errno.EINVAL:  # a zip that names a place before its beginning
-            raise refused(place, "no zip, or cut off") from None
+            raise refused(place, "not a zip, or truncated") from None
         raise Refusal(7, f"{NAME}: {place}: {fault.strerror or 'read fault'}\n") from None
 
 
@@ -148,7 +148,7 @@ def items(source, prefix):
                 yield value
         except (ijson.JSONError, UnicodeDecodeError) as fault:
             behind = f" after {prefix.removesuffix('.item')} {number}" if number else ""
-            raise refused(source, f"no JSON, or cut off{behind}: {first_line(fault)}") from None
+            raise refused(source, f"not JSON, or truncated{behind}: {first_line(fault)}") from None
 
 
 def first(source, prefix):

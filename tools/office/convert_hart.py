@@ -6,7 +6,7 @@ import convert_xml
 from convert_export import add_mark, Candidate, Card, Contest, Place, refused, Vote
 
 ROOT = "Cvr"
-WANTED = ".xml file; a file for each card was looked for (Hart's CVR folders)"
+WANTED = ".xml file; expected a file for each card (Hart's CVR folders)"
 VALUE = re.compile("[01]+")
 WRITE_IN = "write-in"
 ID_MEMBERS = ("BatchNumber", "BatchSequence")
@@ -34,7 +34,7 @@ class Export:
     def root(self, source):
         root = convert_xml.whole(source)
         if convert_xml.local(root) != ROOT:
-            raise refused(source, f"is a {convert_xml.local(root)}; a {ROOT} was looked for (Hart's form)")
+            raise refused(source, f"is a {convert_xml.local(root)}; expected a {ROOT} (Hart's form)")
         return root
 
     @staticmethod
@@ -55,7 +55,7 @@ class Export:
     def add_option(self, contest, option, here):
         value, key = convert_xml.text_of(option, "Value") or "", self.key_of(option, here)
         if not VALUE.fullmatch(value):
-            raise refused(here, f"the Value of {key} is {value or 'missing'}; a 0 or 1 for each rank was looked for")
+            raise refused(here, f"the Value of {key} is {value or 'missing'}; expected a 0 or 1 for each rank")
         self.longest[contest.key] = max(self.longest.get(contest.key, 0), len(value))
         is_write_in = key == WRITE_IN
         name = "Write-in" if is_write_in else self.wanted(option, "Name", here)

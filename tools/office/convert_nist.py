@@ -29,7 +29,7 @@ class Export:
         for name, wanted in (("@type", TYPE), ("Version", VERSION)):
             found = convert_files.first(source, name)
             if found != wanted:
-                raise refused(source, f"{name} is {'missing' if found is None else found}; {wanted} was looked for (NIST SP 1500-103)")
+                raise refused(source, f"{name} is {'missing' if found is None else found}; expected {wanted} (NIST SP 1500-103)")
 
     def read_elections(self, source, elections):
         """Contests of several reports are the same where they have one @id; then the first one's lists hold."""
@@ -51,7 +51,7 @@ class Export:
             contest.add(self.candidate(selection, people, here))
         known = self.contests.setdefault(key, contest)
         if known.candidates != contest.candidates:
-            raise refused(place, f"contest {key} has other candidates than in an earlier report")
+            raise refused(place, f"contest {key} has different candidates than in an earlier report")
 
     def candidate(self, selection, people, place):
         key, is_write_in = member(selection, "@id", str, place), selection.get("IsWriteIn") is True
@@ -72,7 +72,7 @@ class Export:
             for number, record in enumerate(records, 1):
                 yield self.card(record, Place(source, "CVR", number), taken)
             if number == 0:
-                raise refused(source, "has no records; a list CVR was looked for, with one for each card")
+                raise refused(source, "has no records; expected a list CVR, with one for each card")
 
     def card(self, record, place, taken):
         votes, stood = [], set()
@@ -92,7 +92,7 @@ class Export:
         current = member(record, "CurrentSnapshotId", str, place)
         found = [each for each in member(record, "CVRSnapshot", list, place) if type(each) is dict and each.get("@id") == current]
         if len(found) != 1:
-            raise refused(place, f"{len(found)} snapshots have the id {current} of CurrentSnapshotId, where one was looked for")
+            raise refused(place, f"{len(found)} snapshots have the id {current} of CurrentSnapshotId; expected one")
         if found[0].get("Type") == "modified":
             self.notes[MODIFIED] = self.notes.get(MODIFIED, 0) + 1
         return found[0]
@@ -130,5 +130,5 @@ class Export:
 def why_not(contest):
     """Why a contest isn't converted where none is named."""
     if contest.get("VoteVariation") != VARIATION:
-        return f"isn't said to be ranked (VoteVariation is {contest.get('VoteVariation', 'missing')}, and {VARIATION} was looked for)"
+        return f"isn't said to be ranked (VoteVariation is {contest.get('VoteVariation', 'missing')}; expected {VARIATION})"
     return f"elects {contest['NumberElected']} (NumberElected)" if contest.get("NumberElected") not in (None, 1) else None

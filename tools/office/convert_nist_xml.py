@@ -60,7 +60,7 @@ class Report:
     def see(self, source, type_, version):
         for name, found, wanted in (("the root", self.type, type_), ("Version", self.version, version)):
             if found != wanted:
-                raise refused(source, f"{name} is {found or 'missing'}; {wanted} was looked for (NIST SP 1500-103)")
+                raise refused(source, f"{name} is {found or 'missing'}; expected {wanted} (NIST SP 1500-103)")
 
 
 def records(source):

@@ -44,11 +44,11 @@ class Export:
                 raise refused(place, f"{found[1]} is repeated")
             self.heading[found[1]] = place, found[2]
         if "DATA TYPE" not in self.heading:
-            wanted = f"'# DATA TYPE: soi' or another of {', '.join(TYPES)} was looked for in the lines at the head"
+            wanted = f"expected '# DATA TYPE: soi' or another of {', '.join(TYPES)} in the header lines"
             raise refused(f"{self.source}: line 1", f"{wanted} (PrefLib's form since 2022; files of before begin with a number)")
         place, kind = self.heading["DATA TYPE"]
         if kind.strip() not in TYPES:
-            raise refused(place, f"the data type is {kind.strip()}; one of {', '.join(TYPES)} was looked for")
+            raise refused(place, f"the data type is {kind.strip()}; expected one of {', '.join(TYPES)}")
         self.is_complete = kind.strip() in COMPLETE
         self.heading.setdefault("TITLE", (place, ""))
 
@@ -109,7 +109,7 @@ class Export:
             rank, position = rank + 1, found.end() + 1
             for number in re.findall(r"\d+", found[0]):
                 if int(number) not in self.keys:
-                    raise refused(place, f"{number} is no alternative")
+                    raise refused(place, f"{number} isn't an alternative")
                 add_mark(marks, rank, self.contest.mark(self.contest.numbers[self.keys[int(number)]], rank))
         had = sum(map(len, marks.values()))
         if self.is_complete and had != len(self.keys):

@@ -66,10 +66,10 @@ class Export:
                 raise refused(place, f"{name or 'a blank'} is neither {BALLOT}, {MARKS} nor {records.MISSING}, nor a contest of {self.options.ballots}")
             self.has_contests = True
         elif len(taken) > 1:
-            raise refused(place, f"doesn't say which contest it is about; --contest names one of: {'; '.join(taken)}")
+            raise refused(place, f"doesn't say which contest it is about; name one with --contest: {'; '.join(taken)}")
         contest = self.contests[name] if name else next(iter(taken.values()))
         if (card, contest.key) in self.stood:
-            raise refused(place, f"the card {card} came before{f' with the contest {name}' if name else ''}")
+            raise refused(place, f"the card {card} is listed twice{f' with the contest {name}' if name else ''}")
         self.stood.add((card, contest.key))
         if contest.key in taken:
             self.add(place, card, contest, rest, votes)
@@ -78,12 +78,12 @@ class Export:
         word, *marked = rest if rest else ("",)
         if word == records.MISSING:
             if any(marked):
-                raise refused(place, f"the card {card} is missing, and something stands after that")
+                raise refused(place, f"the card {card} is missing, and something comes after that")
             self.missing.append((card, contest.key))
             self.notes["cards that weren't found"] = self.notes.get("cards that weren't found", 0) + 1
             return
         if word not in (BALLOT, MARKS):
-            raise refused(place, f"the card {card} has no reading: neither {BALLOT}, {MARKS} nor {records.MISSING} stands after it")
+            raise refused(place, f"the card {card} has no reading: neither {BALLOT}, {MARKS} nor {records.MISSING} comes after it")
         marks = self.marks_of(place, contest, marked) if word == MARKS else self.ranking_of(place, contest, marked)
         votes.setdefault(card, (place, []))[1].append(Vote(contest, marks))
 
@@ -98,10 +98,10 @@ class Export:
         while fields and not fields[-1]:
             fields = fields[:-1]
         if len(fields) % 2:
-            raise refused(place, f"after {MARKS} a rank and a candidate were looked for, again and again; there are {len(fields)} fields")
+            raise refused(place, f"after {MARKS}, expected pairs of a rank and a candidate; there are {len(fields)} fields")
         for rank, each in zip(fields[::2], fields[1::2]):
             if not (rank.isascii() and rank.isdigit() and int(rank) >= 1):
-                raise refused(place, f"{rank or 'a blank'} is no rank")
+                raise refused(place, f"{rank or 'a blank'} isn't a rank")
             add_mark(marks, int(rank), self.choice(place, contest, each, int(rank)))
         return marks
 
@@ -115,7 +115,7 @@ class Export:
             if not found:
                 contest.add(Candidate(WRITE_IN, WRITE_IN, True))
         if each not in contest.numbers:
-            raise refused(place, f"{each} is no candidate of contest {contest} in {self.options.ballots}")
+            raise refused(place, f"{each} isn't a candidate of contest {contest} in {self.options.ballots}")
         return contest.mark(contest.numbers[each], rank)
 
 
@@ -127,4 +127,4 @@ def rows_of(source):
                 raise refused(Place(source, "record", at), "has a quote that isn't closed in its line")
             yield Place(source, "record", at), fields
     except csv.Error as fault:
-        raise refused(source, f"no comma-separated text: {fault}") from None
+        raise refused(source, f"not comma-separated text: {fault}") from None

@@ -59,7 +59,7 @@ class Meanings:
     @staticmethod
     def why(cell):
         kinds = ", ".join(KINDS[:-1]) + f" or {KINDS[-1]}"
-        told = f"{cell} is like a word for an overvote, an undervote or a write-in, and is none that is known"
+        told = f"{cell} looks like a word for an overvote, an undervote or a write-in, but isn't a known one"
         return f"{told}; --word '{cell}={KINDS[0]}' says what it is: {kinds}"
 
 
@@ -91,7 +91,7 @@ def rows_of_csv(source):
             if any(map(str.strip, row)):
                 yield place, [cell.strip() for cell in row]
     except csv.Error as fault:
-        raise refused(Place(source, "line", reader.line_num), f"no comma-separated line, or cut off: {fault}") from None
+        raise refused(Place(source, "line", reader.line_num), f"not comma-separated, or truncated: {fault}") from None
 
 
 def rows_of_workbook(source, sheet):
@@ -104,11 +104,11 @@ def rows_of_workbook(source, sheet):
         try:
             book = openpyxl.load_workbook(source.outer, read_only=True)
         except (KeyError, ValueError, TypeError, SyntaxError) as fault:
-            raise refused(source, f"no workbook: {convert_files.first_line(fault)}") from None
+            raise refused(source, f"not a workbook: {convert_files.first_line(fault)}") from None
         names = [each.title for each in book.worksheets]
         if sheet is None and len(names) != 1 or sheet is not None and sheet not in names:
             why = "has several sheets" if sheet is None else f"no sheet is called {sheet}"
-            raise refused(source, f"{why}; --sheet names one of: {'; '.join(names)}")
+            raise refused(source, f"{why}; name one with --sheet: {'; '.join(names)}")
         page = book[sheet or names[0]]
         page.reset_dimensions()
         yield from texts_of(source, page)
@@ -122,7 +122,7 @@ def texts_of(source, page):
             if any(cells):
                 yield place, cells
     except (KeyError, ValueError, TypeError, IndexError, SyntaxError) as fault:
-        raise refused(source, f"no workbook: {convert_files.first_line(fault)}") from None
+        raise refused(source, f"not a workbook: {convert_files.first_line(fault)}") from None
 
 
 def text_of(cell, place):
@@ -131,10 +131,10 @@ def text_of(cell, place):
         return ""
     here = place.at(f"cell {cell.coordinate}")
     if cell.data_type in ("f", "e") or isinstance(value, (bool, datetime.date, datetime.time, datetime.timedelta)):
-        raise refused(here, f"is {value}, and a text or a number was looked for")
+        raise refused(here, f"is {value}; expected a text or a number")
     if isinstance(value, float):
         if not value.is_integer():
-            raise refused(here, f"is {value}, and a whole number or a text was looked for")
+            raise refused(here, f"is {value}; expected a whole number or a text")
         value = int(value)
     return str(value).strip()
 
@@ -153,11 +153,11 @@ def see_part(source, part, file):
         for _, element in tree.iterparse(file):
             if element.tag.endswith("}mergeCell"):
                 cells = element.get("ref")
-                raise refused(f"{source}: {part}", f"cells {cells} are merged; part them, or save the sheet of the records as CSV (UTF-8)")
+                raise refused(f"{source}: {part}", f"cells {cells} are merged; split them, or save the sheet of the records as CSV (UTF-8)")
             if element.tag.endswith("}row"):
                 element.clear()
     except tree.ParseError as fault:
-        raise refused(f"{source}: {part}", f"no workbook: {fault}") from None
+        raise refused(f"{source}: {part}", f"not a workbook: {fault}") from None
 
 
 # ---- what the columns are
@@ -177,7 +177,7 @@ class Export:
             if self.head is None:
                 self.read_head(place, head)
             elif head != self.head:
-                raise refused(place, "has another head than the first file")
+                raise refused(place, "has a different header from the first file")
 
     def read_head(self, place, head):
         self.head = head
@@ -186,7 +186,7 @@ class Export:
         if repeated:
             raise refused(place, f"several columns are called {sorted(repeated)[0]}")
         if any("\t" in cell or ";" in cell for cell in head) and len(head) == 1:
-            raise refused(place, "has no commas; a comma-separated file was looked for")
+            raise refused(place, "has no commas; expected a comma-separated file")
         self.read_ranks(place, head)
         wanted = self.options.id or [self.own_id]
         missing = [name for name in wanted if name.lower() not in lower]
@@ -205,7 +205,7 @@ class Export:
         for name, ranks in columns.items():
             if sorted(ranks) != list(range(1, len(ranks) + 1)):
                 had = ", ".join(map(str, sorted(ranks)))
-                raise refused(place, f"the columns of {name} have the ranks {had}; 1 to {len(ranks)}, each once, was looked for")
+                raise refused(place, f"the columns of {name} have the ranks {had}; expected 1 to {len(ranks)}, each once")
             self.columns[name] = [ranks[rank] for rank in sorted(ranks)]
             self.contests[name] = Contest(name, name)
             self.contests[name].is_open = True
@@ -289,7 +289,7 @@ class Ess(Export):
                     raise refused(place, f"several columns are rank {rank} of {name}")
                 ranks[rank] = column
         if not columns and self.options.made == RANKED:
-            raise refused(place, "no column has 'Choice 1 of 5' or '1st Choice' in its name, which were looked for (ES&S's form)")
+            raise refused(place, "no column has 'Choice 1 of 5' or '1st Choice' in its name (ES&S's form)")
         self.add_columns(place, columns)
         if self.options.made != RANKED:
             self.add_unranked(place, head)
@@ -314,7 +314,7 @@ class RcTab(Export):
     def read_ranks(self, place, head):
         ranks = {int(found[1]): column for column, cell in enumerate(head) if (found := RCTAB_RANK.fullmatch(cell))}
         if not ranks:
-            raise refused(place, "no column is called Rank 1 or rank1, which were looked for (RCTab's form, and the unified one)")
+            raise refused(place, "no column is called Rank 1 or rank1 (RCTab's form, and the unified one)")
         self.add_columns(place, {title_of(self.sources[0], self.options): ranks})
         if self.options.id is None:
             lower = [cell.lower() for cell in head]
@@ -337,7 +337,7 @@ class Plain(Export):
                     raise refused(place, f"several columns are rank {found[1]}")
                 ranks[int(found[1])] = column
         if not ranks:
-            raise refused(place, "no column is called 1st or 1, 2nd or 2, .., which were looked for (the plain form: id, 1st, 2nd, ..)")
+            raise refused(place, "no column is called 1st or 1, 2nd or 2, .. (the plain form: id, 1st, 2nd, ..)")
         self.add_columns(place, {title_of(self.sources[0], self.options): ranks})
 
 

@@ -33,7 +33,7 @@ def whole(source):
 
 
 def no_xml(source, fault):
-    return refused(source, f"no XML, or cut off: {convert_files.first_line(fault)}")
+    return refused(source, f"not XML, or truncated: {convert_files.first_line(fault)}")
 
 
 def pieces(source, names):

@@ -102,7 +102,7 @@ class Contest:
         see_once(named, "already_eliminated" if claim.rest is None else "continuing", claim.place)
         rest = [each for each in self.candidates if (each in named) != (claim.rest is None)]
         if not {winner, loser} <= set(rest):
-            raise refused(claim.place, f"its winner {winner} or its loser {loser} isn't still in")
+            raise refused(claim.place, f"its winner {winner} or its loser {loser} is no longer in")
         return {"kind": "NEN", "loser": loser, "rest": rest, "winner": winner}
 
     def text(self):
@@ -135,7 +135,7 @@ def chosen(sources, contest, names, files):
     wanted = sources if contest is None or len(sources) == 1 else [each for each in sources if looks_of(contest, names) & set(map(folded, each.names))]
     if len(wanted) != 1:
         listed = "; ".join(" or ".join(map(short, each.names)) or "one without a name" for each in sources[:MOST_TOLD]) + "; .." * (len(sources) > MOST_TOLD)
-        raise refused(" ".join(files), f"--contest has to say which contest is meant; there are: {listed or 'none'}")
+        raise refused(" ".join(files), f"name the contest with --contest; there are: {listed or 'none'}")
     return wanted[0]
 
 
@@ -170,4 +170,4 @@ def answer(words):
     told = f"{len(claims.assertions)} assertions of contest {claims.contest}, {count} NEB and {len(claims.assertions) - count} NEN; winner {claims.winner}"
     is_called_so = not source.names or looks_of(claims.contest, names) & set(map(folded, source.names))
     called_so = "" if is_called_so else f"; the file calls the contest {short(source.names[0])}"
-    return claims.text(), f"{NAME}: {told}{called_so}. Nothing is proved of them yet\n"
+    return claims.text(), f"{NAME}: {told}{called_so}. Nothing is proved about them yet\n"

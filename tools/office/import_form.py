@@ -37,7 +37,7 @@ def texts(listed, name, place):
     """A list that has nothing but texts, such as names."""
     for each in listed:
         if type(each) is not str:
-            raise refused(place, f"{name} has {short(json.dumps(each))}, where a text was looked for")
+            raise refused(place, f"{name} has {short(json.dumps(each))}; expected a text")
     return listed
 
 

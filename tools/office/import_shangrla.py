@@ -53,7 +53,7 @@ def claim_of(entry, place):
     """What is eliminated already counts for a NEN alone: of a NEB, files have an empty text or an empty list there."""
     kind = member(entry, "assertion_type", str, place)
     if kind not in KINDS:
-        raise refused(place, f"its assertion_type is {short(kind)}; WINNER_ONLY or IRV_ELIMINATION was looked for")
+        raise refused(place, f"its assertion_type is {short(kind)}; expected WINNER_ONLY or IRV_ELIMINATION")
     winner, loser = (member(entry, name, str, place) for name in ("winner", "loser"))
     out = texts(member(entry, "already_eliminated", list, place), "already_eliminated", place) if KINDS[kind] == "NEN" else None
     return Claim(place, KINDS[kind], winner, loser, out=out)

@@ -56,7 +56,7 @@ class Solution:
             return value
         if type(value) is not int:
             looked_for = "a number or a name" if self.has_names else "a number"
-            raise refused(place, f"{short(json.dumps(value))} is no candidate: {looked_for} was looked for")
+            raise refused(place, f"{short(json.dumps(value))} isn't a candidate: expected {looked_for}")
         if self.candidates is None:
             raise refused(place, f"names candidate {short(str(value))}, and no metadata.candidates says who that is")
         if not 0 <= value < len(self.candidates):
@@ -68,7 +68,7 @@ class Solution:
         claim = option(entry, "assertion", dict, place, entry)
         kind = member(claim, "type", str, place)
         if kind not in KINDS:
-            raise refused(place, f"its type is {short(kind)}; NEB or NEN was looked for")
+            raise refused(place, f"its type is {short(kind)}; expected NEB or NEN")
         winner, loser = (self.who(claim.get(name), place.at(name)) for name in ("winner", "loser"))
         if kind == "NEB":
             return Claim(place, kind, winner, loser)

@@ -85,7 +85,8 @@ class Columns:
 def number_of(cell, place, what, least=0):
     if not (cell.isascii() and cell.isdigit() and len(cell) <= 10 and int(cell) >= least):
         near = "".join(filter(str.isdigit, cell))
-        raise refused(place, f"{cell or 'a blank'} is no {what}" + (f"; without marks it would be {near}" if near and near != cell else ""))
+        article = "an" if what[0] in "aeiou" else "a"
+        raise refused(place, f"{cell or 'a blank'} isn't {article} {what}" + (f"; without marks it would be {near}" if near and near != cell else ""))
     return int(cell)
 
 
@@ -107,7 +108,7 @@ def batches_in(given):
         if not is_id(batch) or len(batch) > MOST_BATCH_BYTES:
             raise refused(place, f"no manifest can have the batch {batch}: 1 to {MOST_BATCH_BYTES} characters from space to ~, no comma and no double quote")
         if batch in places:
-            raise refused(place, f"the batch {batch} came before, at {places[batch]}")
+            raise refused(place, f"the batch {batch} is already at {places[batch]}")
         places[batch] = place
         if size == 0:
             empty.append(batch)
@@ -184,6 +185,6 @@ def answer(words):
     batches, cards = len(sizes), sum(sizes.values())
     counts = f"{batches} batch{'es' * (batches != 1)} with {cards} card{'s' * (cards != 1)}"
     lines = [f"{counts}; the id of a card is batch, _ and its number from 1, as in {next(iter(sizes))}_1"]
-    lines += [f"left out, since without cards: {', '.join(empty)}"] * bool(empty)
+    lines += [f"left out because they have no cards: {', '.join(empty)}"] * bool(empty)
     lines += gaps[:MOST_TOLD] + [f"and {len(gaps) - MOST_TOLD} gaps more"] * (len(gaps) > MOST_TOLD) + see_total(sizes, places)
     return text, "".join(f"{NAME}: {line}\n" for line in lines)

@@ -111,7 +111,7 @@ def seen_of(data):
         if reading[0] == MISSING and any(reading[1:]):
             raise Broken("V1", at, f"the card {card} is missing, and something comes after that")
         if card in seen:
-            raise Broken("V3", at, f"the card {card} came before, in record {places[card]}")
+            raise Broken("V3", at, f"the card {card} is already in record {places[card]}")
         seen[card] = MISSING if reading[0] == MISSING else marks_of(at, card, reading[1:]) if reading[0] == MARKS else ranking_of(reading[1:])
         places[card] = at
     return seen

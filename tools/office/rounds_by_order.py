@@ -30,7 +30,7 @@ def order_of(given, ids):
     order = [each.strip() for each in given.ties.split(",")] if given.ties is not None else []
     for each in order:
         if each not in ids:
-            raise Refusal(2, f"{NAME}: --ties names {each or 'nobody'}, who is no candidate; there are: {'; '.join(ids)}\n")
+            raise Refusal(2, f"{NAME}: --ties names {each or 'nobody'}, who isn't a candidate; there are: {'; '.join(ids)}\n")
     if len(set(order)) < len(order):
         raise Refusal(2, f"{NAME}: --ties names a candidate twice\n")
     return order
@@ -47,7 +47,7 @@ def gone_of(votes, tied, order, lines, shown):
     lines.append(f"tied {shown(tied)}")
     listed = [c for c in order if c in tied]
     if len(listed) == len(tied):
-        lines.append(f"the order that is given puts {shown(listed[:1])} first of them")
+        lines.append(f"the given order puts {shown(listed[:1])} first")
         return listed[0]
     if votes[tied[0]] == 0:
         lines.append("nobody has a vote for them, so whichever goes first, the votes stay the same")
@@ -115,8 +115,8 @@ def answer(words):
 
 def account(text, winner, order, shown):
     """What is told beside the rounds: that they aren't proved, and what the program says of the winner."""
-    lines = ["counted only by this tool: nothing of it is proved"]
-    lines += [f"where candidates tie, the first of these is eliminated: {shown(order)}"] * bool(order)
+    lines = ["counted only by this tool: none of it is proved"]
+    lines += [f"if candidates tie, the first of these is eliminated: {shown(order)}"] * bool(order)
     if text is None:
         lines.append("by the records the contest is tied: ./raire search finds no assertions, and the winner depends on the order")
     else:

@@ -27,7 +27,7 @@ def session_of(file):
     """A session that the program has read."""
     session = plain_audit.session_of(file.data)
     if session is None:
-        raise told(f"{file.path} is a session to the program, and this page can't read it: {why_no_session(file.data)}")
+        raise told(f"{file.path} is a session to the program, but this page can't read it: {why_no_session(file.data)}")
     return session
 
 

@@ -41,7 +41,7 @@ class County:
         try:
             self.read(blocks_of(text))
         except plain_audit.Broken as broken:
-            raise told(f"{self.paths[0]} is a ballot file to the program, and this page can't read these files: {broken}") from None
+            raise told(f"{self.paths[0]} is a ballot file to the program, but this page can't read these files: {broken}") from None
 
     def read(self, blocks):
         """The files as this page reads them, for the cards that were seen otherwise than recorded."""
@@ -129,12 +129,12 @@ def told_of(contests, kind, words):
 def see_files(page):
     """All contests on one sample have seed and draws, and nothing that is of one contest."""
     if "--contest" in page.options:
-        raise told("--contest is of one contest, and these files and options are of all: omit it, or give a session or an assertion file")
+        raise told("--contest is for one contest, but these files and options are for all: omit it, or give a session or an assertion file")
     if "--sets" in page.options:
         raise told("all contests on one sample have no --sets: give --nodes")
     if "--each" in page.options:
-        raise told("--each is of a poll, and these files and options are of all contests: omit it, or give an assertion file in place of the ballot file")
+        raise told("--each is for a poll, but these files and options are for all contests: omit it, or give an assertion file in place of the ballot file")
     if page.has("names") and not page.names.all.has_contests:
-        raise told(f"{page.path('names')} names the candidates of one contest, and these files and options are of all: begin it with contest,id,name")
+        raise told(f"{page.path('names')} names the candidates of one contest, but these files and options are for all: begin it with contest,id,name")
     if page.has("counted"):
-        raise told(f"{page.path('counted')} is a full count of one contest, and these files and options are of all")
+        raise told(f"{page.path('counted')} is a full count of one contest, but these files and options are for all")

@@ -32,7 +32,7 @@ class Names:
             raise told(f"{self.path} has no names for the candidates of contest {contest}")
         for c in self.by_id:
             if c not in ids:
-                raise told(f"{self.path} has a name for {c}, who is no candidate")
+                raise told(f"{self.path} has a name for {c}, who isn't a candidate")
 
     def in_line(self, line, ids):
         """A line of a check, with names for ids."""

@@ -108,8 +108,8 @@ class Branch:
 
 
 class Tree:
-    def __init__(self, ids, winner, claims):
-        self.ids, self.winner, n = ids, winner, len(ids)
+    def __init__(self, ids, winner, claims, names=None):
+        self.names, n = names or ids, len(ids)  # the names of the candidates on its branches
         self.counted = Counted(n, ids.index(winner), len(claims), Cutting(ids, claims))
         self.is_whole, self.cuts_of, self.sets = self.counted.is_whole, self.counted.cuts_of, self.counted.sets
         self.cuts, self.standing = self.counted.cuts[0], self.counted.standing[0]
@@ -121,7 +121,7 @@ class Tree:
     def grown(self, path, here):
         """The branches with one more candidate."""
         of = self.counted.cutting.of
-        return [Branch((*path, self.ids[c]), here | 1 << c, of(c, here), self.counted) for c in self.counted.outside(here)]
+        return [Branch((*path, self.names[c]), here | 1 << c, of(c, here), self.counted) for c in self.counted.outside(here)]
 
     def show(self):
         """Level by level, as many branches as a page has room for; those in which an order stands come first. Of a set the first one goes on."""
@@ -141,3 +141,11 @@ class Tree:
                         branch.like = first
             level = further
         self.is_open = shown <= MOST_OPEN
+
+    def cutting(self):
+        """The assertions that cut a branch which is drawn."""
+        found, branches = set(), [*self.branches]
+        for branch in branches:
+            found.add(branch.by)
+            branches += branch.children
+        return found - {None}

@@ -54,11 +54,11 @@ def wholeness(ballots, cards, records):
     """Whether a count has a ballot for each card of the manifest, or for each record where there is no manifest."""
     all_of, what = (cards, "CARDS") if cards is not None else (ballots if records is None else records, "RECORDS")
     if ballots < all_of:
-        more = "This is no full count until each of them is accounted for: a card that doesn’t have the contest, or one that can’t be found."
+        more = "This isn’t a full count until each of them is accounted for: a card that doesn’t have the contest, or one that can’t be found."
         have = "HAS" if all_of - ballots == 1 else "HAVE"
         return "part", f"COUNTED, BUT {all_of - ballots:,} OF {all_of:,} {what} {have} NO BALLOT IN IT:", more
     if ballots > all_of:
-        return "part", f"COUNTED, WITH {ballots:,} BALLOTS FOR {all_of:,} {what}:", "Some ballots are of no card: see which."
+        return "part", f"COUNTED, WITH {ballots:,} BALLOTS FOR {all_of:,} {what}:", "Some ballots belong to no card: find out which."
     return "counted", "COUNTED IN FULL:", "Only those who watched the count can say whether these are all ballots."
 
 

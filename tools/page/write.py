@@ -8,6 +8,7 @@ try:
 except ImportError:  # the help wants no templates
     jinja2 = None
 
+import apart
 import audit
 import county
 import files
@@ -20,6 +21,7 @@ import polled
 import rounds
 import share
 import state
+import tallies
 import term_notes
 import what_to_do
 from files import broken_to_page, Refusal, told
@@ -105,7 +107,7 @@ class Page:
         self.files, self.options, self.program, self.notes = given, options, program, []
         self.parts = dict.fromkeys((
             "session", "contest", "tabulation", "firsts", "counted", "assertions", "verdict", "tree", "plan", "draws", "manifest", "claims", "seen_file",
-            "other_form", "is_plurality", "is_opened", "is_replayed", "poll", "county",
+            "other_form", "is_plurality", "is_opened", "is_replayed", "poll", "county", "apart",
         ))
         self.names = Names(given.get("names"))
         self.judged = set(files.KINDS) - files.NOT_THE_PROGRAMS  # the kinds that the program judges; seen cards once it has run the audit again
@@ -200,7 +202,7 @@ class Page:
         path, name, is_plurality = self.path("counted"), self.parts["contest"], self.parts["is_plurality"]
         status, text = self.program.must_run("tabulate", [path], f"--contest={name}", is_shown=not is_plurality)
         if self.contests("counted")[name] != self.parts["ids"]:
-            raise told(f"{path} has other candidates than {self.path('ballots')}")
+            raise told(f"{path} has different candidates than {self.path('ballots')}")
         count = {} if is_plurality else self.tabulation(status, text, self.parts["ids"])
         if "rounds" not in count:
             contest = plain_audit.ballots_of(self.files["counted"].data, name)
@@ -218,6 +220,20 @@ class Page:
         lines = text.splitlines()
         self.parts["verdict"] = {"status": status, "lines": lines, "shown": [self.names.in_line(line, self.parts["ids"]) for line in lines]}
 
+    def rankings(self):
+        """How many ballots have each ranking; None if that would take long."""
+        data = self.files["ballots"].data
+        if self.ballots:
+            return self.ballots.rankings
+        return None if b'"' in data else tallies.rankings_of(data, len(self.contests()), self.parts["contest"], self.parts["ids"])
+
+    def find_apart(self):
+        """Orders that show that no NEN of the assertion file can be spared, if it holds of the ballots."""
+        file, verdict = self.parts["assertions"], self.parts["verdict"]
+        if verdict and verdict["status"] == 0 and apart.may_be_found(file) and (rankings := self.rankings()):
+            orders = apart.found(self.parts["ids"], rankings, file)
+            self.parts["apart"] = orders and {number: self.shown(self.parts["ids"][c] for c in order) for number, order in orders.items()}
+
     def read_manifest(self):
         if not self.has("manifest"):
             return
@@ -226,7 +242,7 @@ class Page:
         try:
             self.manifest = plain_audit.manifest_of(self.files["manifest"].data)
         except plain_audit.Broken as broken:
-            raise told(f"{path} is a manifest to the program, and this page can't read it: {broken}") from None
+            raise told(f"{path} is a manifest to the program, but this page can't read it: {broken}") from None
         self.see_cards(self.manifest.cards)
         self.parts["manifest"] = {"cards": self.manifest.cards, "batches": audit.sizes(self.manifest)}
         if self.has("ballots"):
@@ -248,7 +264,7 @@ class Page:
             try:
                 self.ballots = plain_audit.ballots_of(self.files["ballots"].data, self.parts["contest"])
             except plain_audit.Broken as broken:
-                raise told(f"{self.path('ballots')} is a ballot file to the program, and this page can't read it: {broken}") from None
+                raise told(f"{self.path('ballots')} is a ballot file to the program, but this page can't read it: {broken}") from None
         return self.ballots
 
     def link(self):
@@ -322,7 +338,7 @@ class Page:
         if not session or not self.has(*kinds):
             return
         if self.parts["verdict"] and self.parts["verdict"]["status"]:
-            raise told(f"{self.path('session')} is no audit of {self.path('assertions')}: a check says {', '.join(self.parts['verdict']['lines'])}")
+            raise told(f"{self.path('session')} isn't an audit of {self.path('assertions')}: a check says {', '.join(self.parts['verdict']['lines'])}")
         paths = [self.path(kind) for kind in kinds]
         terms = [f"--{name}={session[name]}" for name in ("limit", "gamma", "seed")]
         _, text = self.program.must_run(self.audit_commands()[0], paths, *terms, *self.contest_words(), *self.budget_words())
@@ -412,35 +428,36 @@ class Page:
         return {**claim, "winner": self.names.of(claim["winner"]), "loser": self.names.of(claim["loser"]), **rest}
 
     def named_assertions(self):
-        """The assertion file with names for ids, as the page shows it."""
+        """The assertion file with names for ids, as the page shows it; its assertions are named once they are shown."""
         file = self.parts["assertions"]
         if file:
-            claims = [self.named(claim) for claim in file["assertions"]]
-            file = {**file, "winner": self.names.of(file["winner"]), "candidates": self.shown(file["candidates"]), "assertions": claims}
+            file = {**file, "winner": self.names.of(file["winner"]), "candidates": self.shown(file["candidates"])}
             self.parts["assertions"] = file
         return file
 
     def make_claims(self):
-        """A row an assertion: words, margin, what it cuts, its draws and its risk."""
-        file, tabulation, verdict = self.named_assertions(), self.parts["tabulation"], self.parts["verdict"]
+        """A row an assertion: words, margin, what it cuts, its draws and its risk. Only those that are shown have words."""
+        given, file, tabulation, verdict = self.parts["assertions"], self.named_assertions(), self.parts["tabulation"], self.parts["verdict"]
         states = audit.state(self.parts["session"]) if self.parts["session"] else (self.parts["poll"] or {}).get("claims")
         if not file:
             words = self.words_of_claims(states)
             self.list_claims([{"margin": state["margin"], "state": state, "words": each} for state, each in zip(states or [], words)])
             return
-        tree = orders.Tree(file["candidates"], file["winner"], file["assertions"])
+        tree = orders.Tree(given["candidates"], given["winner"], given["assertions"], file["candidates"])
         counted = verdict and "rounds" in tabulation and not UNCOUNTED.match(verdict["lines"][0])
         first = tabulation["rounds"][0]["votes"] if counted else None
         draws = self.parts["draws"] or {}
         self.parts["tree"] = tree
-        self.list_claims([
+        rows = [
             {
-                "claim": claim, "words": in_words(claim, first, self.is_poll()), "margin": claim["margin"], "cuts": tree.cuts_of[j],
-                "state": states[j] if states else None,
+                "claim": claim, "margin": claim["margin"], "cuts": tree.cuts_of[j], "state": states[j] if states else None,
                 "draws": [draws[name][j] for name in ("first", "second") if draws.get(name)],
             }
             for j, claim in enumerate(file["assertions"])
-        ])
+        ]
+        self.list_claims(rows)
+        for j in {row["number"] - 1 for row in self.parts["listed"]} | tree.cutting():
+            rows[j]["words"] = in_words(self.named(file["assertions"][j]), first, self.is_poll())
 
     def words_of_claims(self, states):
         """What the claims of a session without an assertion file say: those of a plurality contest, once its ballots are given."""
@@ -475,7 +492,7 @@ class Page:
         is_whole = self.has_terms() and self.has(*POLLED)
         if not is_whole or {"ballots", "session"} & set(self.files):
             raise told(
-                f"{listed(POLL)} are of a poll or of all contests on one sample: give --seed, --draws, a manifest, a seen file, either an assertion file "
+                f"{listed(POLL)} are for a poll or for all contests on one sample: give --seed, --draws, a manifest, a seen file, either an assertion file "
                 "or a ballot file, and no session"
             )
         if "--sets" in self.options:
@@ -495,6 +512,7 @@ class Page:
         self.read_count()
         self.check()
         self.read_manifest()
+        self.find_apart()
         self.read_poll()
         self.replay()
         self.read_seen()

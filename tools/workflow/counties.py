@@ -126,7 +126,7 @@ def read(top):
         raise Refusal(1, f"state: {os.path.join(top, 'counties')}: {fault.strerror}\n") from None
     bad = [name for name in names if not re.fullmatch(r"[^\x00-\x1f\\\udc80-\udcff]+", name)]
     if bad or not names:
-        told = f"the name {ascii(bad[0])} has a letter that no county has" if bad else "there is no county"
+        told = f"the name {ascii(bad[0])} has a character that no county may have" if bad else "there is no county"
         raise Refusal(1, f"state: {os.path.join(top, 'counties')}: {told}\n")
     rows = table.read(top)
     found = {name: contests_of(os.path.join(top, "counties", name, "ballots.raire")) for name in names}

@@ -261,7 +261,7 @@ def run_in(top, given, further):
         if status and not lines:
             with open(log, errors="replace") as file:
                 sys.stderr.writelines(file.readlines()[-LAST_LINES:])
-            say(f"{SNAKEMAKE} ended with status {status}; all that it said is in {log}")
+            say(f"{SNAKEMAKE} ended with status {status}; its output is in {log}")
         counts = ", ".join(f"{count} {state}" for state, count in summary.counts().items())
         put(NAME, f"{counts}\n{os.path.join(given.folder, MADE, 'summary.csv')}\n")
         return 0 if summary.is_done() and not status else FAILED

@@ -126,7 +126,7 @@ def seen_looks(runs, who):
         if look.seen:
             yield look
         elif later := [other for other in looks[at:] if other.seen]:
-            raise Failed(f"{runs.what}: audit: {later[-1].seen} is there, and no seen_{look.draws}.csv of the look before it")
+            raise Failed(f"{runs.what}: audit: {later[-1].seen} is there, but seen_{look.draws}.csv of the look before it isn't")
 
 
 def opened(contest, runs):

@@ -29,7 +29,7 @@ STATES = {  # those that need a hand first
 FIELDS = "county contest state candidates records winner margin assertions planned search check audit draws signed_off why page".split()
 TO_BE_COUNTED = "full count"
 NOT_MADE = "not made: its job was ended; run it again"
-SPENT_IN_CALL = "contests is spent by nodes: give this contest a session of its own"
+SPENT_IN_CALL = "contests ran out of nodes: give this contest its own session"
 
 
 class Row(NamedTuple):
@@ -76,7 +76,7 @@ def audit_of(contest, county, blocks, runs):
         looks = [(draws, block[-1] == "signed off yes") for draws, block in blocks.of(contest.id)]
         why = SPENT_IN_CALL if any(block[1] == "spent" for _, block in blocks.of(contest.id)) else ""
     last, first = str(looks[-1][0]) if looks else "", next((str(draws) for draws, signed in looks if signed), "")
-    return last, first, "the last look says no: publish that, too" if first and not looks[-1][1] else why
+    return last, first, "the last look says no: publish that too" if first and not looks[-1][1] else why
 
 
 def row_of(contest, county, blocks, runs, has_page):

@@ -111,7 +111,7 @@ def rows_of(file):
         row = {name: text.strip() for name, text in row.items()}
         county, contest = row.pop("county"), row.pop("contest", "")
         if not county or contest and not plain.is_id(contest):
-            raise wrong(line, "a county is missing" if not county else f"{contest} is no id of a contest")
+            raise wrong(line, "a county is missing" if not county else f"{contest} isn't an id of a contest")
         yield line, (county, contest), {name: value_of(name, text, line) for name, text in row.items() if text}
 
 

@@ -1,0 +1,53 @@
+"""The votes of each candidate of a contest once some are gone, for each set of these. Sets are bits, by the places of the candidates."""
+import re
+from array import array
+from collections import Counter
+
+from plain_audit import MARK
+
+LANE = 4  # bytes of a number; there are at most 1,000,000 ballots
+
+
+def rankings_of(data, contests, name, ids):
+    """How many ballots of a contest have each ranking, in a file of so many contests that the program has read and that has no quotes."""
+    data = data.removeprefix(MARK).removeprefix(MARK)
+    records = [line for line in re.split("[\r\n]", data.decode("latin-1")) if line.strip(" \t")]
+    own = (fields for fields in (record.split(",", 2) for record in records[1 + contests:]) if fields[0].strip(" \t") == name)
+    rankings, at = Counter(), {c: place for place, c in enumerate(ids)}
+    for preferences, times in Counter(fields[2] if len(fields) > 2 else "" for fields in own).items():
+        ranked = (field.strip(" \t") for field in preferences.split(","))
+        rankings[tuple(dict.fromkeys(at[c] for c in ranked if c))] += times
+    return rankings
+
+
+def with_sums(numbers, n):
+    """Of numbers for each set, the sums over its parts. All are added up at once, as the digits of one long number."""
+    total = int.from_bytes(numbers.tobytes(), "little")
+    for c in range(n):
+        few = LANE << c
+        without = int.from_bytes((b"\xff" * few + bytes(few)) * (1 << n - 1 - c), "little")
+        total += (total & without) << 8 * few
+    return array("I", total.to_bytes(LANE << n, "little"))
+
+
+class Tallies:
+    def __init__(self, n, rankings):
+        self.n, self.all = n, (1 << n) - 1
+        self.sums = [array("I", bytes(LANE << n)) for _ in range(n)]
+        for ranking, times in rankings.items():
+            before = 0
+            for c in ranking:
+                self.sums[c][before] += times
+                before |= 1 << c
+        self.sums = [with_sums(numbers, n) for numbers in self.sums]
+
+    def votes(self, c, standing):
+        """How many ballots count for a candidate if just these stand."""
+        return self.sums[c][self.all & ~standing]
+
+    def neb(self, w, l):
+        """The margin of a NEB: the first preferences of w, and what l can have at most while w stands."""
+        return self.votes(w, self.all) - self.votes(l, 1 << w | 1 << l)
+
+    def nen(self, w, l, standing):
+        return self.votes(w, standing) - self.votes(l, standing)

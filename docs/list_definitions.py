@@ -101,7 +101,7 @@ def listed():
     of_laws = stood_on(LAWS) - of_call
     head = "| crate | definitions, `NAME.antt` in its `specs/` |\n|---|---|\n"
     return (
-        f"`run` stands on these {len(of_call)} files:\n\n{head}{''.join(rows(of_call))}\n"
+        f"`run` rests on these {len(of_call)} files:\n\n{head}{''.join(rows(of_call))}\n"
         f"The laws over its calls, and the risk limit, on {len(of_laws)} more:\n\n{head}{''.join(rows(of_laws))}"
     )
 

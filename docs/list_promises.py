@@ -299,6 +299,7 @@ READINGS = [
         ["headline", "full_count"],
     ),
     ("An accepted assertion file, and a session that is opened", "`accepted` and `opened`", ["accepted", "opened"]),
+    ("Claims that are adopted", "`adopted` and `complete_adoption`", ["adopted", "complete_adoption"]),
     ("A round of an audit", "`audited`", ["audited"]),
 ]
 

@@ -264,7 +264,8 @@ def by_keyboard(clerk, walk):
 
 def read_by_keyboard(clerk, walk, number, reader):
     enter(clerk, f"a[href='/read/{number}/{reader}']")
-    clerk.type(READERS[reader])  # the page begins at this field
+    clerk.wait("document.activeElement.matches('input')")  # the page begins at this field
+    clerk.type(READERS[reader])
     clerk.leave(lambda: clerk.opened.press("Enter"))
     while clerk.path().startswith("/read/"):
         card = clerk.value("document.querySelector('input[name=card]').value")

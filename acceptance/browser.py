@@ -116,8 +116,10 @@ class Browser:
         return False
 
     def open(self, path):
+        """Waits for the new page, also where it has the same path as the old one."""
+        self.value("window.isOld = true")
         self.ask("Page.navigate", url=f"file://{path}")
-        self.wait(f"document.readyState === 'complete' && location.pathname === {json.dumps(path)}")
+        self.wait(f"document.readyState === 'complete' && !window.isOld && location.pathname === {json.dumps(path)}")
 
     def reload(self):
         self.value("window.isOld = true")

@@ -26,6 +26,7 @@ import table  # noqa: E402
 
 POINTER = "./raire help lists the commands, ./raire help COMMAND the files and options of one"
 END = "What to do: docs/faults.md"
+RULES = {"B": 11, "C": 5, "F": 7, "M": 7, "S": 5, "V": 6}  # the number of rules of each letter
 
 HEAD = "1\nContest,9,2,Ann,Ben\n"
 BALLOTS = HEAD + "9,b_1,Ann\n9,b_2,Ann,Ben\n9,b_3,Ben\n"
@@ -213,7 +214,7 @@ OF_WORDS = [
     (["x"], '"x" isn\'t a command; the commands are adopt, audit, check, contests, open, plan, plurality, poll, report, sample, search, tabulate, trial, trim'),
     (["shwo", "x"], '"shwo" isn\'t a command; the closest match is "show"'),
     (["audit", "--draw", "5"], '"--draw" isn\'t an option of audit; the closest match is "--draws"'),
-    (["search", "-x", "b"], '"-x" isn\'t an option of search; its options are --contest, --workers, --nodes, --sets, --floor, --cards, --limit, --gamma'),
+    (["search", "-x", "b"], '"-x" isn\'t an option of search; its options are --contest, --workers, --nodes, --sets, --floor, --cards, --limit, --gamma, --fewest, --gap'),
     (["search", "---sets", "1"], '"---sets" isn\'t an option of search; the closest match is "--sets"'),
     (["search", "--help"], '"--help" isn\'t an option of search; its page: ./raire help search'),
     (["report", "s", "-h"], '"-h" isn\'t an option of report; its page: ./raire help report'),
@@ -240,6 +241,8 @@ OF_WORDS = [
     (["audit", "s", "b", "m", "a", "c", "--draws=1", "--set=5"], '"--set=5" isn\'t an option of audit; the closest match is "--sets"'),
     (["tabulate", "b", "--sets=5"], '"--sets=5" isn\'t an option of tabulate; its options are --contest, --nodes'),
     (["sample", "b", "--seed", "-1", "--draws", "1"], '--seed has no value; "-1" begins with -, so write it after --seed='),
+    (["search", "b", "--gap", "5"], "--gap is an option of search only with --fewest"),
+    (["search", "b", "--gap=501"], '"501" isn\'t a value of --gap, which is 0 to 500'),
     (["search", "b", "--workers", "0"], '"0" isn\'t a value of --workers, which is 1 to 8'),
     (["sample", "b", "--seed", "2", "6", "1", "--draws", "1"],
      '"6" is one word too many: sample takes MANIFEST; a seed of several words needs quotes, as in --seed "2 6 1 4"'),
@@ -250,7 +253,7 @@ OF_WORDS = [
     (["poll", "m", "a", "s", "--draws", "1"], "poll needs --seed"),
     (["poll", "m", "a", "--seed", "1", "--draws", "1"], "poll takes MANIFEST ASSERTIONS SEEN, and 2 of these are here"),
     (["poll", "m", "a", "s", "--seed=1", "--draws=1", "--contest=1"],
-     '"--contest=1" isn\'t an option of poll; its options are --seed, --draws, --limit, --gamma, --nodes'),
+     '"--contest=1" isn\'t an option of poll; its options are --seed, --draws, --limit, --gamma, --nodes, --each'),
     (["poll", "m", "a", "s", "--seed=1", "--draws=1", "--gamma=501"],
      '"501" isn\'t a value of --gamma, which is 1 to 500 thousandths; a line with --each may have it'),
     (["poll", "m", "a", "s", "--seed=1", "--draws=1", "--gamma=best"],
@@ -316,10 +319,10 @@ def write(name, text):
 
 
 def rules_are_told(tried):
-    """Each rule of formats.md has a cause, in the first row of faults.md that begins with it, and each limit of that page is the one that acceptance/ knows."""
-    rules = {cells[0] for cells in table.rows("formats.md") if re.fullmatch("[BFMSV][0-9]+", cells[0])}
+    """Each rule has a cause, in the first row of faults.md that begins with it, and each limit of formats.md is the one that acceptance/ knows."""
+    rules = {f"{letter}{number}" for letter, most in RULES.items() for number in range(1, most + 1)}
     stand = {match[1] for cells in table.rows("faults.md") if len(cells) == 4 and (match := table.KEYS.match(cells[1]))}
-    tried.see("each rule stands in faults.md", rules == {key for key in stand if re.fullmatch("[BFMSV][0-9]+", key)}, sorted(stand))
+    tried.see("each rule stands in faults.md", rules == {key for key in stand if re.fullmatch("[BCFMSV][0-9]+", key)}, sorted(stand))
     known = {name: number for name, number in vars(limits).items() if name.isupper()}
     for rule, cause in table.causes().items():
         tried.see(f"a number stands in {rule} as in a file", not re.search("[0-9],[0-9]", cause), cause)

@@ -363,6 +363,15 @@ def named(tried):
     got = run_script(tried, "tabulate", "b.raire", *given)
     wanted = "contest Mayor (101)\nrecords 4\nround 1: Ash, Ana=1; Birch=2; Zoë=1; exhausted=0\ntied Ash, Ana; Zoë\neliminated Ash, Ana\nround 2: Birch=2; Zoë=1; exhausted=1\neliminated Zoë\nwinner Birch\n"
     tried.see("a tabulation with names", got == (0, wanted, ""), got)
+    write("tied.raire", "1\nContest,101,3,15,16,17\n101,b_1,15\n101,b_2,16\n")
+    got = run_script(tried, "tabulate", "tied.raire", *given)
+    tried.see("a tie of the only contest with names", got == (3, "tie\nround 2\ntied Ash, Ana; Birch\ntally 1\n", ""), got)
+    write("tied.raire", "2\nContest,101,3,15,16,17\nContest,102,2,1,2\n101,b_1,15\n101,b_2,16\n")
+    for words, told in [(["--contest=101"], "tied Ash, Ana; Birch\n"), (["--contest", "102"], "tied 1; 2\n")]:
+        got = run_script(tried, "tabulate", "tied.raire", *words, *given)
+        tried.see(f"a tie of several contests with names {words}", got[0] == 3 and told in got[1], got)
+    got = run_script(tried, "tabulate", "b.raire", "--names")
+    tried.see("names without a file", got[0] == 1 and got[2].startswith("names: --names needs a file, such as --names names.csv"), got)
     got = tried.run("rounds", "b.raire", "--ties=15", *given)
     tried.see("rounds with names", got[:2] == (3, wanted[:wanted.index("eliminated")]), got)
     write("a.json", tried.run("raire", "search", "b.raire")[1])

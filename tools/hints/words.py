@@ -97,8 +97,15 @@ def call_of(words):
             wrong.append(told)
     for flag, found in flags(commands[words[0]]):
         if is_line(found, words[0], [*words[1:], f"--{flag}"]):
-            raise Wrong(f"{wrong[0]}; a line with --{flag} may have it")
+            others = [form for form in commands[words[0]] if flag not in form.options]
+            only = [name for name in given(words) if name in found.options and not any(name in form.options for form in others)]
+            raise Wrong(f"--{only[0]} is an option of {words[0]} only with --{flag}" if only else f"{wrong[0]}; a line with --{flag} may have it")
     raise wrong[0]
+
+
+def given(words):
+    """The names of the options among the words."""
+    return [word[2:].partition("=")[0] for word in words if word.startswith("--")]
 
 
 def flags(forms_of_command):
@@ -159,9 +166,9 @@ def option_in(word, rest, command, form):
         for flag in (other for other, option in form.options.items() if option.is_flag):
             if word.startswith("--") and any(name in other.options for other in forms()[command]):
                 raise Wrong(f"--{name} isn't an option of a line with --{flag}")
-        all_told = "its options are " + ", ".join(f"--{name}" for name in form.options) if form.options else "it has no options"
         bare = name.strip("-")
         every = list(dict.fromkeys([*form.options, *(other for one in forms()[command] for other in one.options)]))
+        all_told = "its options are " + ", ".join(f"--{other}" for other in every) if every else "it has no options"
         told = f'the closest match is "--{bare}"' if bare in form.options else meant(bare, every, all_told, "--")
         file = f"; the file of this name is {quoted(f'./{word}')}" if os.path.exists(word) else ""
         raise Wrong(f"{quoted(word)} isn't an option of {command}; {told}{file}")

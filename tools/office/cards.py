@@ -247,7 +247,7 @@ def entry(given, cards):
 
 def account(given, cards, again):
     """What is told beside the answer."""
-    notes = [] if given.all else [term_notes.seed_note(given.seed), term_notes.short_note(given.seed)]
+    notes = [] if given.all or os.environ.get("RAIRE_QUIET") else [term_notes.seed_note(given.seed), term_notes.short_note(given.seed)]
     about_seed = "".join(f"{NAME}: {note}\n" for note in notes if note)
     if not before(given):
         return about_seed

@@ -19,7 +19,7 @@ def words_of(words):
 
 
 def accepted(given):
-    """The assertion file, of which the program has said that it holds of the ballots."""
+    """The assertion file, of which the program has said that it holds for the ballots."""
     options = [f"--{name}={value}" for name, value in (("contest", given.contest), ("nodes", given.nodes), ("sets", given.sets)) if value is not None]
     ask(NAME, "check", [given.ballots, given.assertions], *options)
     return json.loads(read(NAME, given.assertions))
@@ -69,5 +69,5 @@ def answer(words):
     see_output(NAME, [given.ballots, given.assertions])
     file = accepted(given)
     see_kinds(file, given.form)
-    told = f"{len(file['assertions'])} assertions of contest {file['contest']}, which ./raire check accepts"
+    told = f"{len(file['assertions'])} assertion{'s'[: len(file['assertions']) != 1]} of contest {file['contest']}, which ./raire check accepts"
     return json.dumps(made(given, file), indent=1) + "\n", f"{NAME}: {told}\n"

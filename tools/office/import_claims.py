@@ -167,7 +167,8 @@ def answer(words):
     except Refusal as refusal:
         raise Refusal(refusal.status, refusal.text.replace("convert: ", f"{NAME}: ", 1)) from None
     count = sum(each["kind"] == "NEB" for each in claims.assertions)
-    told = f"{len(claims.assertions)} assertions of contest {claims.contest}, {count} NEB and {len(claims.assertions) - count} NEN; winner {claims.winner}"
+    number = len(claims.assertions)
+    told = f"{number} assertion{'s'[: number != 1]} of contest {claims.contest}, {count} NEB and {number - count} NEN; winner {claims.winner}"
     is_called_so = not source.names or looks_of(claims.contest, names) & set(map(folded, source.names))
     called_so = "" if is_called_so else f"; the file calls the contest {short(source.names[0])}"
     return claims.text(), f"{NAME}: {told}{called_so}. Nothing is proved about them yet\n"

@@ -1,5 +1,6 @@
 #!/usr/bin/python3
 """The lines of ./raire tabulate, plan, report, check, poll and contests with names for ids: ./raire COMMAND .. --names NAMES."""
+import csv
 import json
 import os
 import re
@@ -9,6 +10,7 @@ import sys
 sys.dont_write_bytecode = True
 
 import called
+import records
 import term_notes
 from ask import path_of_program, read, Refusal
 from words import ended, put, see_output
@@ -29,21 +31,29 @@ def parted(words):
                 raise Refusal(1, f"{NAME}: --names is given twice\n")
             path = word.partition("=")[2] if "=" in word else (words.pop(0) if words and not words[0].startswith("-") else "")
             if not path:
-                raise Refusal(1, f"{NAME}: --names needs a file: records contest,id,name, as ./raire convert --names writes it\n")
+                raise Refusal(1, f"{NAME}: --names needs a file, such as --names names.csv\n")
         else:
             rest.append(word)
     return path, rest
 
 
+def only_contest(path):
+    """The contest of a ballot file that has one. Any other file raises ValueError, or has none."""
+    with open(path, "rb") as file:
+        contests = [*records.contests_of(file.read())]
+    return contests[0] if len(contests) == 1 else None
+
+
 def contest_of(words):
-    """The contest that the words are about: that of --contest, or of an assertion file or a session among the files."""
+    """The contest that the words are about: that of --contest, of an assertion file or a session among the files, or the only one of a ballot file."""
     given = term_notes.value_of("contest", words)
     for path in [] if given is not None else [word for word in words[1:] if not word.startswith("-") and os.path.isfile(word)]:
         try:
             with open(path, encoding="utf-8") as file:
-                found = json.load(file) if file.read(1) == "{" and file.seek(0) == 0 else None
-            given = given or (found or {}).get("contest")
-        except (OSError, ValueError, RecursionError):
+                is_object = file.read(1) == "{" and file.seek(0) == 0
+                found = json.load(file).get("contest") if is_object else only_contest(path)
+            given = given or found
+        except (OSError, ValueError, RecursionError, StopIteration, csv.Error):
             continue
     return given
 

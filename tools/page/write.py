@@ -210,7 +210,7 @@ class Page:
         self.parts["counted"] = {**count, "file": self.files["counted"].name}
 
     def check(self):
-        """Whether the assertion file holds of the ballots, in the program's words."""
+        """Whether the assertion file holds for the ballots, in the program's words."""
         if not self.has("ballots", "assertions"):
             return
         words = [*self.contest_words(), *self.budget_words()]
@@ -228,7 +228,7 @@ class Page:
         return None if b'"' in data else tallies.rankings_of(data, len(self.contests()), self.parts["contest"], self.parts["ids"])
 
     def find_apart(self):
-        """Orders that show that no NEN of the assertion file can be spared, if it holds of the ballots."""
+        """Orders that show that no NEN of the assertion file can be spared, if it holds for the ballots."""
         file, verdict = self.parts["assertions"], self.parts["verdict"]
         if verdict and verdict["status"] == 0 and apart.may_be_found(file) and (rankings := self.rankings()):
             orders = apart.found(self.parts["ids"], rankings, file)
@@ -411,7 +411,7 @@ class Page:
             judged = ["V1", *["V2"] * seen["has_manifest"], "V3", *["V5"] * seen["has_candidates"]]
             self.notes.append(
                 f"The program didn’t judge the seen file {self.path('seen')}: {why}. By this page’s own reading "
-                f"{', '.join(judged[:-1])} and {judged[-1]} of docs/formats.md are kept."
+                f"{', '.join(judged[:-1])} and {judged[-1]} of docs/faults.md are kept."
             )
 
     def shown(self, ids):

@@ -1,6 +1,6 @@
 -- What comes of claims over votes, comes of them over the ballots that they are of.
 use Rattle.budget.specs.declared.budget.Budget.{Budget}
-use Rattle.ballot_reader.specs.Ballots.{BallotFile, votes_of}
+use Rattle.ballots.specs.Ballots.{BallotFile, votes_of}
 use Rattle.claims_file.specs.Claimed.{Claimed}
 use Rattle.cli_base.specs.Outcome.{Verdict}
 use Rattle.adopt_command.specs.Adopt.{Adopts}

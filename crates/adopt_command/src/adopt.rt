@@ -3,7 +3,7 @@ ghost use Rattle.std.specs.Prelude.{◌≡◌, ◌≤◌, length, IfOk, IsTrue, 
 ghost use Rattle.irv_base.specs.declared.limits.TheConstants.{ROOM};
 ghost use Rattle.assertions.specs.Assertions.{is_proper};
 ghost use Rattle.desk.specs.Count.{Rose};
-ghost use Rattle.ballot_reader.specs.Ballots.{BallotFile, votes_of};
+ghost use Rattle.ballots.specs.Ballots.{BallotFile, votes_of};
 ghost use Rattle.claims_file.specs.Claimed.{AreSound};
 ghost use Rattle.report.specs.Texts.{assertion_text};
 ghost use Rattle.cli_base.specs.Accounts.{IsAccountedFor};
@@ -19,7 +19,7 @@ ghost use Rattle.adopt_command.specs.Named.{IsAmong};
 use adoption::{Adoption, adopt};
 use assertion_file::print_file;
 use assertions::Assertion;
-use ballot_reader::Votes;
+use ballots::Votes;
 use budget::Budget;
 use check_command::check::{
     candidate_spent, difference, order_stands, other_winner, spent_sets_answer,

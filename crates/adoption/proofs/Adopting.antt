@@ -24,7 +24,7 @@ use Rattle.assertions.proofs.Decided.{proof-decided}
 use Rattle.assertions.proofs.Elections.{from_covers}
 use Rattle.assertions.proofs.Endings.{alternative-member}
 use Rattle.budget.specs.declared.budget.Budget.{Budget}
-use Rattle.ballot_reader.specs.Ballots.{BallotFile, AreCandidates}
+use Rattle.ballots.specs.Ballots.{BallotFile, AreCandidates}
 use Rattle.assertion_file.specs.Content.{Content, IsSound}
 use Rattle.claims_file.specs.Claimed.{Claimed, AreSound}
 use Rattle.cover_checker.specs.Checks.{IsAnswer as IsCheckAnswer}

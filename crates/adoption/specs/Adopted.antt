@@ -8,7 +8,7 @@ use Rattle.assertions.specs.Assertions.{assertions}
 use Rattle.assertions.specs.Certificate.{claim_of, is_same}
 use Rattle.assertions.specs.FixedOrder.{is_before}
 use Rattle.assertions.specs.Laws.{IsProof}
-use Rattle.ballot_reader.specs.Ballots.{BallotFile}
+use Rattle.ballots.specs.Ballots.{BallotFile}
 use Rattle.assertion_file.specs.Content.{Content, margins_of}
 use Rattle.claims_file.specs.Claimed.{Claimed}
 use Rattle.cover_checker.specs.Findings.{assertions_of}

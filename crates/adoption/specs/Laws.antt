@@ -2,7 +2,7 @@
 use Rattle.std.specs.Prelude.{◌≡◌, ◌↔◌, length, Ok}
 use Rattle.budget.specs.declared.budget.Budget.{Budget}
 use Rattle.assertions.specs.Laws.{IsProof}
-use Rattle.ballot_reader.specs.Ballots.{BallotFile, AreCandidates}
+use Rattle.ballots.specs.Ballots.{BallotFile, AreCandidates}
 use Rattle.assertion_file.specs.Content.{Content}
 use Rattle.claims_file.specs.Claimed.{Claimed, AreSound}
 use Rattle.cover_checker.specs.Checks.{IsAnswer as IsCheckAnswer}

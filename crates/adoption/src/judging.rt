@@ -15,7 +15,7 @@ use crate::each_once::each_once;
 use crate::margins::{first_untrue, with_margins};
 use assertion_file::{AssertionFile, Parts};
 use assertions::{Assertion, Claim};
-use ballot_reader::Votes;
+use ballots::Votes;
 use budget::Budget;
 use claims_file::Claims;
 use cover_checker::{CoverFault, Verdict, covered, smallest_margin, winner_of};

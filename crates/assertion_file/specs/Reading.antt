@@ -105,7 +105,7 @@ heading_of value = do
   heading ← ok_or (heading_in value) F2
   judged_heading heading
 
--- ---- an assertion, where there are candidates with these ids and so many records
+-- ---- an assertion, if there are candidates with these ids and this many records
 
 -- a NEN's rest has each of its candidates once, and both the winner and the loser
 abbrev pub is_rest : ℕ → ℕ → Option (List ℕ) → Bool

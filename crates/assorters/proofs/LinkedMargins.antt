@@ -7,8 +7,8 @@ use Rattle.std.proofs.lemmas.List.Folds.{fold-map, list_any_at, sum_by-replicate
 use Rattle.std.proofs.lemmas.List.Sums.{sum_by-set, sum_by_more}
 use Rattle.std.proofs.lemmas.Option.{get_or_from_slice_get, slice_get_within}
 use Rattle.irv_base.specs.Names.{Id, is_same, all_differ}
-use Rattle.ballot_reader.specs.Ballots.{BallotFile}
-use Rattle.ballot_reader.proofs.Differing.{among-set, differ-split}
+use Rattle.ballots.specs.Ballots.{BallotFile}
+use Rattle.ballot_ids.proofs.Differing.{among-set, differ-split}
 use Rattle.manifest.specs.BallotNumbers.{ballot_number, ballot_numbers, from_one, recorded_at}
 use Rattle.manifest.specs.Cards.{AreBatches, Batches, cards_of, place_of}
 use Rattle.manifest.specs.Linked.{first_without_card, has_card, linked_of, recorded_of}

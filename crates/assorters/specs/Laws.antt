@@ -1,7 +1,7 @@
 -- The laws of the cards that are compared with their records.
 use Rattle.std.specs.Prelude.{◌≡◌, ◌↔◌, ℕ, ◌*◌, ◌<◌, ◌≤◌, List, map, length, sum, sum_by, All, pos, ◌-ℤ◌, ◌<ℤ◌, None}
 use Rattle.std.specs.List.{range_with_len}
-use Rattle.ballot_reader.specs.Ballots.{BallotFile, IsSound as AreSound}
+use Rattle.ballots.specs.Ballots.{BallotFile, IsSound as AreSound}
 use Rattle.manifest.specs.Cards.{Batches, AreBatches}
 use Rattle.manifest.specs.Linked.{linked_of, first_without_card}
 use Rattle.manifest.specs.declared.recorded.Recorded.{Recorded}

@@ -7,7 +7,7 @@ use Rattle.assertions.specs.declared.assertion.Assertion.{Assertion}
 use Rattle.assertions.specs.declared.assertion.Claim.{Claim}
 use Rattle.assertions.specs.Assertions.{true_margin}
 use Rattle.assertions.proofs.Certificates.{none_beats_best}
-use Rattle.ballot_reader.specs.Ballots.{BallotFile}
+use Rattle.ballots.specs.Ballots.{BallotFile}
 use Rattle.assertion_file.specs.Content.{Content, IsSound, candidate_count}
 use Rattle.cover_checker.specs.Holds.{Holds}
 use Rattle.cover_checker.specs.declared.checked.Checked.TheVariants.{Accepted}

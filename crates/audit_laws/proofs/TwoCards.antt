@@ -6,7 +6,7 @@ use Rattle.std.proofs.lemmas.List.Elements.{All-nil, All-cons}
 use Rattle.budget.specs.declared.budget.Budget.TheVariants.{Nodes}
 use Rattle.irv_base.specs.Candidates.{is_distinct}
 use Rattle.assertions.specs.declared.assertion.Assertion.TheVariants.{Neb}
-use Rattle.ballot_reader.specs.Ballots.{IsSound as AreSound}
+use Rattle.ballots.specs.Ballots.{IsSound as AreSound}
 use Rattle.assertion_file.specs.Content.{IsSound, IsSoundClaim}
 use Rattle.cover_checker.specs.Outcomes.{IsWinner}
 use Rattle.cover_checker.specs.Checks.{IsAnswer}

@@ -5,7 +5,7 @@ use Rattle.budget.specs.declared.budget.Budget.{Budget}
 use Rattle.assertions.specs.declared.assertion.Assertion.{Assertion}
 use Rattle.assertions.specs.Assertions.{is_proper, is_true, true_margin}
 use Rattle.assertions.specs.Refutation.{covers}
-use Rattle.ballot_reader.specs.Ballots.{BallotFile}
+use Rattle.ballots.specs.Ballots.{BallotFile}
 use Rattle.assertion_file.specs.Content.{Content, IsSound, candidate_count}
 use Rattle.cover_checker.specs.Checks.{IsAnswer}
 use Rattle.cover_checker.specs.declared.checked.Checked.TheVariants.{Accepted}

@@ -6,7 +6,7 @@ use Rattle.irv_base.specs.Tabulation.{is_possible}
 use Rattle.assertions.specs.declared.assertion.Assertion.{Assertion}
 use Rattle.assertions.specs.Assorter.{assorter_value}
 use Rattle.assertions.specs.Suffixes.{IsAlternative}
-use Rattle.ballot_reader.specs.Ballots.{BallotFile, IsSound as AreSound}
+use Rattle.ballots.specs.Ballots.{BallotFile, IsSound as AreSound}
 use Rattle.assertion_file.specs.Content.{Content as FileContent, IsSound as IsSoundFile, candidate_count}
 use Rattle.cover_checker.specs.Holds.{Holds}
 use Rattle.cover_checker.specs.Outcomes.{IsWinner}

@@ -17,7 +17,7 @@ use Rattle.std.specs.Prelude.{◌≢◌, ◌≡◌, ℕ, ◌*◌, ◌^◌, ◌�
 use Rattle.budget.specs.declared.budget.Budget.{Budget}
 use Rattle.irv_base.specs.Orders.{is_order, Elects}
 use Rattle.irv_base.specs.Tabulation.{is_possible}
-use Rattle.ballot_reader.specs.Ballots.{BallotFile, IsSound as AreSound}
+use Rattle.ballots.specs.Ballots.{BallotFile, IsSound as AreSound}
 use Rattle.assertion_file.specs.Content.{Content, IsSound, candidate_count}
 use Rattle.cover_checker.specs.Checks.{IsAnswer}
 use Rattle.cover_checker.specs.declared.checked.Checked.TheVariants.{Accepted}

@@ -2,11 +2,12 @@
 ghost use Rattle.std.specs.Prelude.{◌≤◌, IfSome, IsTrue, length};
 ghost use Rattle.irv_base.specs.Names.{all_differ};
 ghost use Rattle.irv_base.specs.declared.limits.TheConstants.{MOST_WORKERS};
-ghost use Rattle.ballot_reader.specs.declared.limits.TheConstants.{MOST_CONTESTS};
+ghost use Rattle.ballots.specs.declared.limits.TheConstants.{MOST_CONTESTS};
 ghost use Rattle.contest_set.specs.SeenBy.{contest_ids};
 
 use crate::one_card::MANIFEST;
-use ballot_reader::{Ballots, read_contests};
+use ballot_reader::read_contests;
+use ballots::Ballots;
 use contest_set::{ContestEnd, SetFault, SharedTerms, audit_all, read_seen_by};
 use desk::{Gate, NoGate};
 use file_fault::Rule;
@@ -188,7 +189,7 @@ fn the_first_contest_without_a_record_is_told(rt: HostRuntime) {
     }
 }
 
-/// Holds the first contest up until the second took a piece, for so many turns.
+/// Holds the first contest up until the second took a piece, for at most this many turns.
 #[derive(Drop)]
 struct Held {
     turns: u32,

@@ -1,7 +1,7 @@
 // Tests of `input_files`: what files in memory say, and how they are refused.
 use crate::one_card::{ASSERTIONS, BALLOTS, MANIFEST};
 use crate::reading::{desk_of, named};
-use ballot_reader::Ballots;
+use ballots::Ballots;
 use cli_base::{Refusal, RefusalKind};
 use input_files::{
     assertions_in, ballots_in, bytes_of, cards_for, manifest_in, no_record_text, refuse_for,

@@ -7,9 +7,9 @@ use Rattle.irv_base.specs.Names.{Id, candidate_named, is_among, is_name, is_same
 use Rattle.irv_base.specs.Records.{firsts}
 use Rattle.irv_base.specs.declared.limits.TheConstants.{MOST_RECORDS}
 use Rattle.irv_base.proofs.Positions.{some_position}
-use Rattle.ballot_reader.specs.Grammar.{Ballot, Contest, all_of, ballot_for, ballot_ids, ballot_in, ballot_of, ballot_with, ballots_after, ballots_in, contest_with_id, is_marked, ranking_of}
-use Rattle.ballot_reader.specs.declared.fault.BRule.{BRule}
-use Rattle.ballot_reader.specs.declared.fault.BRule.TheVariants.{B4, B6, B7, B8, B9, B10}
+use Rattle.ballots.specs.Grammar.{Ballot, Contest, all_of, ballot_for, ballot_ids, ballot_in, ballot_of, ballot_with, ballots_after, ballots_in, contest_with_id, is_marked, ranking_of}
+use Rattle.ballots.specs.declared.fault.BRule.{BRule}
+use Rattle.ballots.specs.declared.fault.BRule.TheVariants.{B4, B6, B7, B8, B9, B10}
 use Rattle.ballot_laws.specs.Rows.{ballot_contest, ballot_id, ballots_for, candidates_for, contest_id, preferences}
 use Rattle.ballot_laws.specs.Breaking.{ballot_rule, first_broken}
 use Rattle.ballot_laws.proofs.Heads.{IsFound, IsLost, finds, head_of}

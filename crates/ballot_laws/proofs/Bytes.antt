@@ -8,9 +8,9 @@ use Rattle.std.proofs.lemmas.List.Elements.{All-head, All-tail}
 use Rattle.csv_rows.specs.Rows.{Fields}
 use Rattle.csv_rows.proofs.Numbers.{own}
 use Rattle.irv_base.specs.Names.{Id, is_name}
-use Rattle.ballot_reader.specs.Grammar.{ballots_from}
+use Rattle.ballots.specs.Grammar.{ballots_from}
 use Rattle.ballot_reader.specs.Laws.{HasSpelling, ballot_records, id_of, spelling}
-use Rattle.ballot_reader.specs.Ballots.{BallotFile}
+use Rattle.ballots.specs.Ballots.{BallotFile}
 use Rattle.ballot_reader.proofs.Rereads.{what_is_spelled}
 use Rattle.ballot_laws.specs.Bytes.{BytesSpellFile, FirstBrokenRuleRefusesBytes, SpellingIsRead, WrittenIsJudged, is_plain, is_plain_record}
 use Rattle.ballot_laws.proofs.Plain.{plain-name, plain-names, plain-number, some-fields}

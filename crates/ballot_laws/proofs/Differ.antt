@@ -7,9 +7,9 @@ use Rattle.std.proofs.lemmas.List.{append-nil, map-append}
 use Rattle.std.proofs.lemmas.List.Elements.{filter-append}
 use Rattle.csv_rows.specs.Rows.{Fields}
 use Rattle.irv_base.specs.Names.{Id, all_differ, is_among, is_same}
-use Rattle.ballot_reader.specs.declared.fault.BRule.{BRule}
-use Rattle.ballot_reader.specs.declared.fault.BRule.TheVariants.{B2}
-use Rattle.ballot_reader.proofs.Differing.{differ-push, differ-split}
+use Rattle.ballots.specs.declared.fault.BRule.{BRule}
+use Rattle.ballots.specs.declared.fault.BRule.TheVariants.{B2}
+use Rattle.ballot_ids.proofs.Differing.{differ-push, differ-split}
 use Rattle.ballot_laws.specs.Rows.{contest_id, field}
 use Rattle.ballot_laws.specs.Breaking.{AreUnbroken, begins_contest, contest_rule, contest_rules, first_broken}
 

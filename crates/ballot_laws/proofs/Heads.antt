@@ -6,11 +6,11 @@ use Rattle.std.specs.Cmp.Lexicographic.{bytes_decides}
 use Rattle.csv_rows.specs.Numbers.{number_of}
 use Rattle.csv_rows.specs.Rows.{Fields}
 use Rattle.irv_base.specs.Names.{Id, all_differ, is_among, is_name, is_same}
-use Rattle.ballot_reader.specs.Grammar.{Contest, contest_named, contest_of, contest_with, contests_in, has_id, listed, number_up_to, then_on}
+use Rattle.ballots.specs.Grammar.{Contest, contest_named, contest_of, contest_with, contests_in, has_id, listed, number_up_to, then_on}
 use Rattle.file_fault.specs.Refusals.{and_then, Refusal, refused}
-use Rattle.ballot_reader.specs.declared.fault.BRule.{BRule}
-use Rattle.ballot_reader.specs.declared.fault.BRule.TheVariants.{B2, B3, B4}
-use Rattle.ballot_reader.specs.declared.limits.TheConstants.{MOST_LISTED}
+use Rattle.ballots.specs.declared.fault.BRule.{BRule}
+use Rattle.ballots.specs.declared.fault.BRule.TheVariants.{B2, B3, B4}
+use Rattle.ballots.specs.declared.limits.TheConstants.{MOST_LISTED}
 use Rattle.ballot_laws.specs.Rows.{candidates_for, candidates_in, contest_id}
 use Rattle.manifest.specs.Spelling.{number_or_0}
 use Rattle.ballot_laws.specs.Breaking.{contest_rule, first_broken, lists_candidates, names_candidates}

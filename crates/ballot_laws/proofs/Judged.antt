@@ -8,8 +8,8 @@ use Rattle.csv_rows.specs.Numbers.{number_of}
 use Rattle.csv_rows.specs.Rows.{Fields}
 use Rattle.irv_base.specs.Names.{Id, all_differ, is_among, is_name, is_same}
 use Rattle.irv_base.specs.declared.limits.TheConstants.{MOST_RECORDS}
-use Rattle.ballot_reader.specs.declared.fault.BRule.TheVariants.{B2, B3, B4, B6, B7, B8, B9, B10}
-use Rattle.ballot_reader.specs.declared.limits.TheConstants.{MOST_LISTED}
+use Rattle.ballots.specs.declared.fault.BRule.TheVariants.{B2, B3, B4, B6, B7, B8, B9, B10}
+use Rattle.ballots.specs.declared.limits.TheConstants.{MOST_LISTED}
 use Rattle.ballot_laws.specs.Rows.{ballot_contest, ballot_id, ballots_for, candidates_for, candidates_in, contest_id, field, preferences, size}
 use Rattle.manifest.specs.Spelling.{number_or_0}
 use Rattle.ballot_laws.specs.Breaking.{ballot_rule, ballot_rules, begins_contest, contest_rule, contest_rules, lists_candidates, names_candidates}

@@ -8,12 +8,12 @@ use Rattle.csv_rows.specs.Broken.{IsFirstBroken}
 use Rattle.csv_rows.specs.Numbers.{number_of}
 use Rattle.csv_rows.specs.Rows.{Fields}
 use Rattle.irv_base.specs.Names.{Id}
-use Rattle.ballot_reader.specs.Ballots.{BallotFile}
-use Rattle.ballot_reader.specs.Grammar.{Ballot, Contest, asked_for, ballot_of, ballots_after, ballots_behind, ballots_from, ballots_in, contest_count, contest_of, file_of, audited_contest, then_on}
+use Rattle.ballots.specs.Ballots.{BallotFile}
+use Rattle.ballots.specs.Grammar.{Ballot, Contest, asked_for, ballot_of, ballots_after, ballots_behind, ballots_from, ballots_in, contest_count, contest_of, file_of, audited_contest, then_on}
 use Rattle.file_fault.specs.Refusals.{Refusal, refused}
-use Rattle.ballot_reader.specs.declared.fault.BRule.{BRule}
-use Rattle.ballot_reader.specs.declared.fault.BRule.TheVariants.{B1, B2, B3, B5}
-use Rattle.ballot_reader.specs.declared.limits.TheConstants.{MOST_CONTESTS}
+use Rattle.ballots.specs.declared.fault.BRule.{BRule}
+use Rattle.ballots.specs.declared.fault.BRule.TheVariants.{B1, B2, B3, B5}
+use Rattle.ballots.specs.declared.limits.TheConstants.{MOST_CONTESTS}
 use Rattle.ballot_laws.specs.Rows.{asked_place, ballot_contest, ballot_id, ballots, candidates_for, candidates_in, contest_id, contests, count, is_counted, places_of, record_at}
 use Rattle.manifest.specs.Spelling.{number_or_0}
 use Rattle.ballot_laws.specs.Breaking.{AreUnbroken, HasContests, IsRefused, ballot_rule, choice_refused, contest_rule, has_auditable_size}

@@ -9,8 +9,8 @@ use Rattle.std.proofs.lemmas.List.Quantifiers.{position-Some}
 use Rattle.irv_base.proofs.Positions.{first_place, found_at, found_none, later_place}
 use Rattle.csv_rows.specs.Rows.{Fields}
 use Rattle.irv_base.specs.Names.{Id, all_differ, is_among, is_same}
-use Rattle.ballot_reader.specs.Grammar.{Ballot, asked_for, ballots_in, has_id}
-use Rattle.ballot_reader.proofs.Differing.{or-false}
+use Rattle.ballots.specs.Grammar.{Ballot, asked_for, ballots_in, has_id}
+use Rattle.ballot_ids.proofs.Differing.{or-false}
 use Rattle.ballot_laws.specs.Rows.{asked_place, ballot_contest, ballots, candidates_for, candidates_in, contest_id, contests, count, record_at}
 use Rattle.ballot_laws.proofs.Ballots.{ballot_said}
 use Rattle.ballot_laws.proofs.Heads.{head_of}

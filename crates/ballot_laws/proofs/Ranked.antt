@@ -10,9 +10,9 @@ use Rattle.std.proofs.lemmas.Option.{slice_get-get_or}
 use Rattle.csv_rows.specs.Rows.{Fields}
 use Rattle.irv_base.specs.Names.{Id, all_differ, candidate_named, is_among, is_same}
 use Rattle.irv_base.specs.Records.{firsts}
-use Rattle.ballot_reader.specs.Grammar.{all_of}
+use Rattle.ballots.specs.Grammar.{all_of}
 use Rattle.ballot_reader.specs.Laws.{id_of}
-use Rattle.ballot_reader.proofs.Differing.{position-at}
+use Rattle.ballot_ids.proofs.Differing.{position-at}
 use Rattle.ballot_laws.specs.Rows.{preferences}
 use Rattle.ballot_laws.specs.Spelling.{Ranks}
 use Rattle.ballot_laws.proofs.Ballots.{ranking_in, ranking_or_none, some-all, some-among}

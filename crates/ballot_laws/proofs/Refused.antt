@@ -2,10 +2,10 @@
 use Rattle.std.proofs.Common.{inl, inr, ◌≡◌, ◌∙◌, ℕ, List, Option, Err, sym, ap, subst}
 use Rattle.csv_rows.specs.Rows.{Fields}
 use Rattle.irv_base.specs.Names.{Id}
-use Rattle.ballot_reader.specs.Grammar.{ballots_from}
+use Rattle.ballots.specs.Grammar.{ballots_from}
 use Rattle.file_fault.specs.Refusals.{Refusal, refused}
-use Rattle.ballot_reader.specs.Ballots.{BallotFile}
-use Rattle.ballot_reader.specs.declared.fault.BRule.{BRule}
+use Rattle.ballots.specs.Ballots.{BallotFile}
+use Rattle.ballots.specs.declared.fault.BRule.{BRule}
 use Rattle.ballot_laws.specs.Breaking.{FirstBrokenRuleRefuses, IsRefused}
 use Rattle.ballot_laws.proofs.Outcome.{all-read, decides, refused-so}
 

@@ -8,9 +8,9 @@ use Rattle.std.proofs.lemmas.List.FromFn.{length-range_with_len}
 use Rattle.csv_rows.specs.Rows.{Fields}
 use Rattle.irv_base.specs.Candidates.{is_distinct}
 use Rattle.irv_base.specs.Names.{Id, all_differ, is_name}
-use Rattle.ballot_reader.specs.Ballots.{AreBallots, BallotFile, IsSound}
-use Rattle.ballot_reader.specs.Grammar.{Ballot, ranking_of}
-use Rattle.ballot_reader.proofs.Firsts.{IsRanking, is_ranking}
+use Rattle.ballots.specs.Ballots.{AreBallots, BallotFile, IsSound}
+use Rattle.ballots.specs.Grammar.{Ballot, ranking_of}
+use Rattle.ballots.proofs.Firsts.{IsRanking, is_ranking}
 use Rattle.ballot_laws.specs.Rows.{ballot_id, ballots, ballots_for, candidates_in, contest_id, contests, count, places_of, record_at}
 use Rattle.ballot_laws.specs.Sound.{IsNamed, ReadIsSound}
 use Rattle.ballot_laws.specs.Spelling.{Spells}

@@ -9,10 +9,10 @@ use Rattle.csv_rows.specs.Numbers.{number_of}
 use Rattle.csv_rows.specs.Rows.{Fields}
 use Rattle.irv_base.specs.Names.{Id, all_differ, is_among, is_same}
 use Rattle.irv_base.specs.declared.limits.TheConstants.{FEWEST_CANDIDATES, MOST_CANDIDATES, MOST_RECORDS}
-use Rattle.ballot_reader.specs.Ballots.{BallotFile}
-use Rattle.ballot_reader.specs.Grammar.{ballots_from}
-use Rattle.ballot_reader.specs.declared.limits.TheConstants.{MOST_CONTESTS}
-use Rattle.ballot_reader.proofs.Ended.{got}
+use Rattle.ballots.specs.Ballots.{BallotFile}
+use Rattle.ballots.specs.Grammar.{ballots_from}
+use Rattle.ballots.specs.declared.limits.TheConstants.{MOST_CONTESTS}
+use Rattle.ballot_ids.proofs.IdBytes.{got}
 use Rattle.ballot_laws.specs.Rows.{ballot_contest, ballot_id, ballots, ballots_for, candidates_for, candidates_in, contest_id, contests, count, field, number_in, places_of, record_at}
 use Rattle.manifest.specs.Spelling.{number_or_0}
 use Rattle.ballot_laws.specs.Breaking.{HasContests, ballot_rule}

@@ -6,7 +6,7 @@ use Rattle.std.proofs.lemmas.Bool.{cases_Bool}
 use Rattle.csv_rows.specs.Broken.{IsFirstBroken}
 use Rattle.csv_rows.specs.Rows.{Fields}
 use Rattle.file_fault.specs.Refusals.{and_then, Refusal, refused}
-use Rattle.ballot_reader.specs.declared.fault.BRule.{BRule}
+use Rattle.ballots.specs.declared.fault.BRule.{BRule}
 use Rattle.ballot_laws.specs.Breaking.{AreUnbroken}
 
 -- what record by record is judged, each by what the ones before it came to

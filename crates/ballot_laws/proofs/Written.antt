@@ -14,7 +14,7 @@ use Rattle.csv_rows.specs.Fields.{byte_order_mark, is_blank_record, numbered, nu
 use Rattle.csv_rows.specs.Rows.{Fields, records_of}
 use Rattle.csv_rows.proofs.Ends.{end-stays, take_last}
 use Rattle.irv_base.specs.Names.{space, tilde, touches_space}
-use Rattle.ballot_reader.proofs.Differing.{or-false}
+use Rattle.ballot_ids.proofs.Differing.{or-false}
 use Rattle.ballot_laws.specs.Bytes.{WrittenIsRead, is_plain, is_plain_record, written}
 
 abbrev is_printable : ℕ → Bool

@@ -5,13 +5,13 @@ use Rattle.csv_rows.specs.Broken.{IsFirstBroken}
 use Rattle.csv_rows.specs.Rows.{Fields}
 use Rattle.irv_base.specs.Names.{Id, is_name, is_same, is_among, all_differ}
 use Rattle.irv_base.specs.declared.limits.TheConstants.{FEWEST_CANDIDATES, MOST_CANDIDATES, MOST_RECORDS}
-use Rattle.ballot_reader.specs.Grammar.{ballots_from}
-use Rattle.ballot_reader.specs.declared.fault.BRule.{BRule}
-use Rattle.ballot_reader.specs.declared.fault.BRule.TheVariants.{B1, B2, B3, B4, B5, B6, B7, B8, B9, B10}
-use Rattle.ballot_reader.specs.declared.limits.TheConstants.{MOST_LISTED}
+use Rattle.ballots.specs.Grammar.{ballots_from}
+use Rattle.ballots.specs.declared.fault.BRule.{BRule}
+use Rattle.ballots.specs.declared.fault.BRule.TheVariants.{B1, B2, B3, B4, B5, B6, B7, B8, B9, B10}
+use Rattle.ballots.specs.declared.limits.TheConstants.{MOST_LISTED}
 use Rattle.ballot_laws.specs.Rows.{record_at, field, contest_id, size, candidates_in, candidates_for, ballot_contest, ballot_id, preferences, ballots_for, count, is_counted, contests, ballots, asked_place}
 
--- ---- a contest's record, behind the records of others
+-- ---- a contest's record, after the records of others
 
 -- a contest's record has at least three fields: `Contest`, an id that none of the others has, and one more
 abbrev pub begins_contest : List Fields → Fields → Bool
@@ -39,7 +39,7 @@ contest_rules before row =
     ∷ (B4, names_candidates row)
     ∷ []
 
--- ---- a ballot's record in one of these contests, behind the records of other ballots
+-- ---- a ballot's record in one of these contests, after the records of other ballots
 
 abbrev pub ballot_rules : List Fields → List Fields → Fields → List (BRule × Bool)
 ballot_rules contests before row =

@@ -5,10 +5,10 @@ use Rattle.csv.specs.Writing.{default_writer, row_text}
 use Rattle.csv_rows.specs.Fields.{is_blank_record, numbered_records}
 use Rattle.csv_rows.specs.Rows.{Fields}
 use Rattle.irv_base.specs.Names.{Id, space, tilde, touches_space}
-use Rattle.ballot_reader.specs.Ballots.{BallotFile}
-use Rattle.ballot_reader.specs.Grammar.{ballots_from, ballots_of}
+use Rattle.ballots.specs.Ballots.{BallotFile}
+use Rattle.ballots.specs.Grammar.{ballots_from, ballots_of}
 use Rattle.ballot_reader.specs.Laws.{HasSpelling, spelling}
-use Rattle.ballot_reader.specs.declared.fault.BRule.{BRule}
+use Rattle.ballots.specs.declared.fault.BRule.{BRule}
 use Rattle.ballot_laws.specs.Breaking.{IsRefused}
 use Rattle.ballot_laws.specs.Spelling.{Spells}
 

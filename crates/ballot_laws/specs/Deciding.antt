@@ -2,8 +2,8 @@
 use Rattle.std.specs.Prelude.{◌≡◌, ◌⊎◌, ℕ, List, Option}
 use Rattle.csv_rows.specs.Rows.{Fields}
 use Rattle.irv_base.specs.Names.{Id}
-use Rattle.ballot_reader.specs.Ballots.{BallotFile}
-use Rattle.ballot_reader.specs.declared.fault.BRule.{BRule}
+use Rattle.ballots.specs.Ballots.{BallotFile}
+use Rattle.ballots.specs.declared.fault.BRule.{BRule}
 use Rattle.ballot_laws.specs.Breaking.{IsRefused}
 use Rattle.ballot_laws.specs.Spelling.{Spells}
 

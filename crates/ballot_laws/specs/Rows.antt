@@ -4,8 +4,8 @@ use Rattle.std.specs.List.{range_with_len}
 use Rattle.csv_rows.specs.Numbers.{number_of}
 use Rattle.csv_rows.specs.Rows.{Fields}
 use Rattle.irv_base.specs.Names.{Id, is_same}
-use Rattle.ballot_reader.specs.Grammar.{is_marked}
-use Rattle.ballot_reader.specs.declared.limits.TheConstants.{MOST_CONTESTS}
+use Rattle.ballots.specs.Grammar.{is_marked}
+use Rattle.ballots.specs.declared.limits.TheConstants.{MOST_CONTESTS}
 use Rattle.manifest.specs.Spelling.{number_or_0}
 
 -- ---- records and fields

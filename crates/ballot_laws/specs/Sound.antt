@@ -3,8 +3,8 @@ use Rattle.std.specs.Prelude.{◌≡◌, List, Option, Ok, IsTrue}
 use Rattle.std.specs.List.{list_all}
 use Rattle.csv_rows.specs.Rows.{Fields}
 use Rattle.irv_base.specs.Names.{Id, is_name}
-use Rattle.ballot_reader.specs.Ballots.{BallotFile, IsSound}
-use Rattle.ballot_reader.specs.Grammar.{ballots_from}
+use Rattle.ballots.specs.Ballots.{BallotFile, IsSound}
+use Rattle.ballots.specs.Grammar.{ballots_from}
 
 -- the contest, candidates and ballots of a file have ids that keep the rule of ids
 pub record IsNamed (file : BallotFile) : Type 0 where

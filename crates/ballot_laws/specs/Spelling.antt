@@ -6,10 +6,10 @@ use Rattle.csv_rows.specs.Rows.{Fields}
 use Rattle.irv_base.specs.Names.{Id, is_name, all_differ}
 use Rattle.irv_base.specs.Records.{firsts}
 use Rattle.irv_base.specs.declared.limits.TheConstants.{FEWEST_CANDIDATES, MOST_CANDIDATES, MOST_RECORDS}
-use Rattle.ballot_reader.specs.Ballots.{BallotFile}
-use Rattle.ballot_reader.specs.Grammar.{ballots_from}
+use Rattle.ballots.specs.Ballots.{BallotFile}
+use Rattle.ballots.specs.Grammar.{ballots_from}
 use Rattle.ballot_reader.specs.Laws.{id_of}
-use Rattle.ballot_reader.specs.declared.limits.TheConstants.{MOST_CONTESTS, MOST_LISTED}
+use Rattle.ballots.specs.declared.limits.TheConstants.{MOST_CONTESTS, MOST_LISTED}
 use Rattle.ballot_laws.specs.Rows.{record_at, field, contest_id, candidates_in, ballot_id, preferences, ballots_for, contests, ballots, places_of, asked_place}
 
 -- ---- contests

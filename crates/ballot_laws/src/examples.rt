@@ -2,9 +2,9 @@
 ghost use Rattle.std.specs.Prelude.{◌≡◌, ◌++◌, List, [], ◌∷◌, length, Some, None, Ok, true, false, codes};
 ghost use Rattle.csv_rows.specs.Rows.{Fields};
 ghost use Rattle.irv_base.specs.declared.limits.TheConstants.{MOST_RECORDS};
-ghost use Rattle.ballot_reader.specs.Grammar.{ballots_from, contests_from};
+ghost use Rattle.ballots.specs.Grammar.{ballots_from, contests_from};
 ghost use Rattle.file_fault.specs.Refusals.{refused};
-ghost use Rattle.ballot_reader.specs.declared.fault.BRule.TheVariants.{B1, B2, B3, B4, B5, B6, B7, B8, B9, B10};
+ghost use Rattle.ballots.specs.declared.fault.BRule.TheVariants.{B1, B2, B3, B4, B5, B6, B7, B8, B9, B10};
 ghost use Rattle.ballot_laws.specs.Breaking.{IsRefused, ballot_rule, contest_rule};
 ghost use Rattle.ballot_laws.specs.Bytes.{is_plain_record, written};
 ghost use Rattle.ballot_laws.specs.Rows.{asked_place, candidates_in, preferences};

@@ -12,14 +12,14 @@ use Rattle.irv_base.specs.Candidates.{is_distinct}
 use Rattle.irv_base.specs.Names.{Id, is_among, is_same, all_differ}
 use Rattle.irv_base.specs.declared.limits.TheConstants.{MOST_RECORDS}
 use Rattle.set_tallies.specs.declared.bag.TheConstants.{ALWAYS_SUMMED}
-use Rattle.ballot_reader.specs.Grammar.{Ballot, Contest, ballot_for, ballot_ids, ballot_in, ballot_of, ballot_with, ballots_in, ranking_of}
+use Rattle.ballots.specs.Grammar.{Ballot, Contest, ballot_for, ballot_ids, ballot_in, ballot_of, ballot_with, ballots_in, ranking_of}
 use Rattle.ballot_reader.specs.Kept.{AllNoted, AreApart, CountsOwn, EachCountsOwn, IsKept, KeepsAudited, KeptBallots, KeptOrigins, KeptPart, WantsAudited, contest_ids, counted_for, is_wanted, keeps_origins, part_of, parts_from, rankings_in, with_ballot, with_origin}
-use Rattle.ballot_reader.specs.Noted.{AreNoted}
-use Rattle.ballot_reader.specs.declared.noted.Noted.{Noted}
-use Rattle.ballot_reader.specs.declared.fault.BRule.TheVariants.{B9, B10}
+use Rattle.ballot_ids.specs.Noted.{AreNoted}
+use Rattle.ballot_ids.specs.declared.noted.Noted.{Noted}
+use Rattle.ballots.specs.declared.fault.BRule.TheVariants.{B9, B10}
 use Rattle.ballot_reader.specs.declared.wanted.Wanted.{Wanted}
-use Rattle.ballot_reader.proofs.Differing.{differ-push, or-false}
-use Rattle.ballot_reader.proofs.Firsts.{IsRanking}
+use Rattle.ballot_ids.proofs.Differing.{differ-push, or-false}
+use Rattle.ballots.proofs.Firsts.{IsRanking}
 
 -- ---- the ballots of a contest, after one more
 

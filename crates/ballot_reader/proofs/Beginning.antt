@@ -9,10 +9,10 @@ use Rattle.file_fault.specs.declared.fault.Fault.{Fault}
 use Rattle.file_fault.specs.declared.fault.Fault.TheVariants.{Refused, Memory}
 use Rattle.irv_base.specs.Names.{Id}
 use Rattle.ballot_reader.specs.Begun.{BegunFile, IsReadSoFar}
-use Rattle.ballot_reader.specs.Grammar.{Ballot, Contest, asked_for, audited_contest, ballot_of, ballots_after, ballots_behind, ballots_from, contest_count, contest_of, contests_in, file_of, has_audited_size, then_on}
+use Rattle.ballots.specs.Grammar.{Ballot, Contest, asked_for, audited_contest, ballot_of, ballots_after, ballots_behind, ballots_from, contest_count, contest_of, contests_in, file_of, has_audited_size, then_on}
 use Rattle.ballot_reader.specs.Kept.{IsKeptUpTo, KeptBallots, WantsAudited}
-use Rattle.ballot_reader.specs.declared.fault.BRule.{BRule}
-use Rattle.ballot_reader.specs.declared.fault.BRule.TheVariants.{B3}
+use Rattle.ballots.specs.declared.fault.BRule.{BRule}
+use Rattle.ballots.specs.declared.fault.BRule.TheVariants.{B3}
 use Rattle.ballot_reader.specs.declared.wanted.Wanted.TheVariants.{VotesOf}
 use Rattle.ballot_reader.proofs.Adding.{same_at}
 use Rattle.ballot_reader.proofs.Behind.{left, refused-on, same-refusal, with-audited}

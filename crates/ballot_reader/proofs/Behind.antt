@@ -2,12 +2,12 @@
 use Rattle.std.proofs.Common.{◌≡◌, ◌+◌, ◌∙◌, ◌++◌, ◌∷◌, [], ℕ, List, Option, Some, Result, Ok, length, map, drop, sym, ap}
 use Rattle.csv_rows.specs.Rows.{Fields}
 use Rattle.irv_base.specs.Names.{Id}
-use Rattle.ballot_reader.specs.Ballots.{BallotFile}
+use Rattle.ballots.specs.Ballots.{BallotFile}
 use Rattle.file_fault.specs.Refusals.{and_then, Refusal, Refuses}
-use Rattle.ballot_reader.specs.Grammar.{Ballot, Contest, all_audited, asked_for, ballot_of, ballots_after, ballots_behind, contests_behind, contests_in, file_of, audited_contest, then_on}
+use Rattle.ballots.specs.Grammar.{Ballot, Contest, all_audited, asked_for, ballot_of, ballots_after, ballots_behind, contests_behind, contests_in, file_of, audited_contest, then_on}
 use Rattle.ballot_reader.specs.Kept.{IsKeptUpTo, KeptBallots}
 use Rattle.file_fault.specs.declared.fault.Fault.{Fault}
-use Rattle.ballot_reader.specs.declared.fault.BRule.{BRule}
+use Rattle.ballots.specs.declared.fault.BRule.{BRule}
 use Rattle.file_fault.specs.declared.fault.Fault.TheVariants.{Refused, Memory}
 use Rattle.ballot_reader.specs.declared.wanted.Wanted.{Wanted}
 

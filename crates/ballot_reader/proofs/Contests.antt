@@ -5,13 +5,13 @@ use Rattle.std.specs.List.{list_any, slice_get}
 use Rattle.std.proofs.lemmas.List.{map-append}
 use Rattle.csv_rows.specs.Rows.{Fields}
 use Rattle.irv_base.specs.Names.{Id, is_among, is_name, is_same, all_differ}
-use Rattle.ballot_reader.specs.Grammar.{Contest, contest_named, contest_of, contest_with, contests_in, has_id, listed, names_of, number_up_to}
+use Rattle.ballots.specs.Grammar.{Contest, contest_named, contest_of, contest_with, contests_in, has_id, listed, names_of, number_up_to}
 use Rattle.file_fault.specs.Refusals.{and_then, refused}
 use Rattle.ballot_reader.specs.Kept.{contest_ids}
-use Rattle.ballot_reader.specs.declared.fault.BRule.{BRule}
-use Rattle.ballot_reader.specs.declared.fault.BRule.TheVariants.{B2, B4}
-use Rattle.ballot_reader.specs.declared.limits.TheConstants.{MOST_LISTED}
-use Rattle.ballot_reader.proofs.Differing.{differ-push, or-false}
+use Rattle.ballots.specs.declared.fault.BRule.{BRule}
+use Rattle.ballots.specs.declared.fault.BRule.TheVariants.{B2, B4}
+use Rattle.ballots.specs.declared.limits.TheConstants.{MOST_LISTED}
+use Rattle.ballot_ids.proofs.Differing.{differ-push, or-false}
 
 -- ---- a contest that is accepted has a new id
 

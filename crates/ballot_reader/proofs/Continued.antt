@@ -2,10 +2,10 @@
 use Rattle.std.proofs.Common.{◌≡◌, ◌+◌, ◌∙◌, ◌++◌, ℕ, List, length, ap, arith}
 use Rattle.csv_rows.specs.Rows.{Fields}
 use Rattle.file_fault.specs.declared.fault.Fault.{Fault}
-use Rattle.ballot_reader.specs.Grammar.{Ballot, Contest, ballots_after}
+use Rattle.ballots.specs.Grammar.{Ballot, Contest, ballots_after}
 use Rattle.ballot_reader.specs.Kept.{IsKeptUpTo, KeptBallots}
 use Rattle.ballot_reader.specs.Parts.{ComeBehind, IsRefusedBehind}
-use Rattle.ballot_reader.specs.declared.fault.BRule.{BRule}
+use Rattle.ballots.specs.declared.fault.BRule.{BRule}
 use Rattle.ballot_reader.specs.declared.wanted.Wanted.{Wanted}
 use Rattle.ballot_reader.proofs.Behind.{same-refusal}
 use Rattle.ballot_reader.proofs.Beginning.{ballots-append, ballots-length, refused-append}

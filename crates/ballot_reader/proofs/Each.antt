@@ -8,14 +8,14 @@ use Rattle.csv_rows.specs.Fields.{numbered_records}
 use Rattle.csv_rows.specs.Numbers.{number_of}
 use Rattle.csv_rows.specs.Rows.{Fields}
 use Rattle.irv_base.specs.Names.{Id, all_differ, is_same}
-use Rattle.ballot_reader.specs.Ballots.{BallotFile}
-use Rattle.ballot_reader.specs.Grammar.{Ballot, Contest, audited_contest, ballot_of, ballots_after, ballots_behind, ballots_from, contest_count, contest_with_id, contests_behind, contests_from, contests_in, file_of, has_audited_size, then_on, unless_unsized}
+use Rattle.ballots.specs.Ballots.{BallotFile}
+use Rattle.ballots.specs.Grammar.{Ballot, Contest, audited_contest, ballot_of, ballots_after, ballots_behind, ballots_from, contest_count, contest_with_id, contests_behind, contests_from, contests_in, file_of, has_audited_size, then_on, unless_unsized}
 use Rattle.file_fault.specs.Refusals.{and_then, Refusal, refused}
 use Rattle.ballot_reader.specs.Kept.{contest_ids}
 use Rattle.ballot_reader.specs.Laws.{ContestsAreEach, IsFirstRefusal, IsOfEach, listed_behind, listed_from}
-use Rattle.ballot_reader.specs.declared.fault.BRule.{BRule}
-use Rattle.ballot_reader.specs.declared.fault.BRule.TheVariants.{B3}
-use Rattle.ballot_reader.specs.declared.limits.TheConstants.{MOST_CONTESTS}
+use Rattle.ballots.specs.declared.fault.BRule.{BRule}
+use Rattle.ballots.specs.declared.fault.BRule.TheVariants.{B3}
+use Rattle.ballots.specs.declared.limits.TheConstants.{MOST_CONTESTS}
 use Rattle.ballot_reader.proofs.Adding.{apart, elsewhere, same-comm, same-refl}
 use Rattle.ballot_reader.proofs.Behind.{after_all, after_contests, after_listed, after_sized, listed, with-contests}
 use Rattle.ballot_reader.proofs.Contests.{AreListed, all_listed, none_listed}

@@ -9,19 +9,14 @@ use Rattle.std.proofs.lemmas.List.Elements.{All-nil}
 use Rattle.std.proofs.Math.Seq.{take-suc}
 use Rattle.irv_base.specs.Candidates.{is_distinct}
 use Rattle.irv_base.specs.Names.{is_same}
-use Rattle.ballot_reader.specs.Ballots.{AreBallots}
-use Rattle.ballot_reader.specs.Grammar.{Ballot, Contest, ballot_ids, ballots_in, file_of, has_audited_size, unless_unsized}
+use Rattle.ballots.specs.Ballots.{AreBallots}
+use Rattle.ballots.specs.Grammar.{Ballot, Contest, ballot_ids, ballots_in, file_of, has_audited_size, unless_unsized}
 use Rattle.ballot_reader.specs.Kept.{AllNoted, IsKept, KeptBallots, KeptPart, WantsAudited, empty_part, file_with, is_wanted, keeps_origins, part_of, parts_from, origins_in, rankings_in}
-use Rattle.ballot_reader.specs.Noted.{AreNoted}
-use Rattle.ballot_reader.specs.declared.noted.Noted.{Noted}
+use Rattle.ballot_ids.specs.Noted.{AreNoted}
+use Rattle.ballot_ids.specs.declared.noted.Noted.{Noted}
 use Rattle.ballot_reader.specs.declared.wanted.Wanted.{Wanted}
 use Rattle.ballot_reader.specs.declared.wanted.Wanted.TheVariants.{All as EachContest}
 use Rattle.ballot_reader.proofs.Adding.{length-parts, part-at, wanted_part}
-
-pub got : {X : Type 0} (xs : List X) (k : ℕ) → k < length xs → (x : X) × (slice_get xs k ≡ Some x)
-got [] k l = absurd (omega (arith, l))
-got (x ∷ xs) zero l = (x, refl)
-got (x ∷ xs) (suc k) l = got xs k (omega (arith, l))
 
 met-none : (contests : List Contest) (noted : List Noted) → length noted ≡ length contests → All (AreNoted []) noted →
     AllNoted [] contests noted

@@ -2,8 +2,8 @@
 use Rattle.std.proofs.Common.{true, ◌≡◌, ◌+◌, ◌∙◌, ◌++◌, ◌∷◌, [], ℕ, List, Option, Some, None, length, map, refl, sym, ap, subst, append_assoc}
 use Rattle.std.specs.List.{slice_get}
 use Rattle.std.proofs.lemmas.List.{append-nil, map-append}
-use Rattle.ballot_reader.specs.Ballots.{BallotFile}
-use Rattle.ballot_reader.specs.Grammar.{Ballot, Contest, file_of}
+use Rattle.ballots.specs.Ballots.{BallotFile}
+use Rattle.ballots.specs.Grammar.{Ballot, Contest, file_of}
 use Rattle.ballot_reader.specs.Kept.{IsKept, KeptBallots, KeptPart, file_with, part_of, parts_from}
 use Rattle.ballot_reader.specs.declared.wanted.Wanted.TheVariants.{All as EachContest}
 use Rattle.ballot_reader.proofs.Ended.{file-is}

@@ -4,8 +4,8 @@ use Rattle.std.specs.Prelude.{IfSome, IfNone, position, if◌then◌else◌}
 use Rattle.std.specs.List.{slice_get}
 use Rattle.csv_rows.specs.Rows.{Fields}
 use Rattle.irv_base.specs.Names.{Id, is_name}
-use Rattle.ballot_reader.specs.Grammar.{Ballot, Contest, ballot_for, ballot_in, contest_with_id, has_id}
-use Rattle.ballot_reader.specs.declared.fault.BRule.TheVariants.{B4, B7}
+use Rattle.ballots.specs.Grammar.{Ballot, Contest, ballot_for, ballot_in, contest_with_id, has_id}
+use Rattle.ballots.specs.declared.fault.BRule.TheVariants.{B4, B7}
 use Rattle.irv_base.proofs.Positions.{found_at, found_none}
 
 named : (contests : List Contest) (earlier : List Ballot) (at : ℕ) (row : Fields) (of id : Id) (preferences : Fields) → row ≡ of ∷ id ∷ preferences →

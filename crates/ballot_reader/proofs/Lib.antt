@@ -1,8 +1,4 @@
-pub mod Differing
-pub mod AllOf
 pub mod Names
-pub mod Chosen
-pub mod Firsts
 pub mod Heads
 pub mod Contests
 pub mod Adding
@@ -12,15 +8,6 @@ pub mod Filed
 pub mod Each
 pub mod Missed
 pub mod Rereads
-pub mod SortedIds
-pub mod IdBytes
-pub mod Words
-pub mod Marks
-pub mod Noting
-pub mod OfBoth
-pub mod PagesLeft
-pub mod Halves
-pub mod Eight
 pub mod Beginning
 pub mod Continued
 pub mod Staged

@@ -6,12 +6,12 @@ use Rattle.csv_rows.specs.Fields.{numbered_records}
 use Rattle.csv_rows.specs.Rows.{Fields}
 use Rattle.irv_base.specs.Names.{Id, is_among, is_name, is_same}
 use Rattle.irv_base.specs.declared.limits.TheConstants.{MOST_RECORDS}
-use Rattle.ballot_reader.specs.Grammar.{Ballot, Contest, all_audited, ballot_for, ballot_ids, ballot_in, ballot_of, ballot_with, ballots_after, contest_count, contest_named, contest_of, contest_with, contest_with_id, contests_behind, contests_from, contests_in, file_of, has_audited_size, has_id, listed, names_of, number_up_to, ranking_of, then_on, unless_unsized}
+use Rattle.ballots.specs.Grammar.{Ballot, Contest, all_audited, ballot_for, ballot_ids, ballot_in, ballot_of, ballot_with, ballots_after, contest_count, contest_named, contest_of, contest_with, contest_with_id, contests_behind, contests_from, contests_in, file_of, has_audited_size, has_id, listed, names_of, number_up_to, ranking_of, then_on, unless_unsized}
 use Rattle.file_fault.specs.Refusals.{and_then, Refusal, refused}
 use Rattle.ballot_reader.specs.Laws.{NoneIsMissed}
-use Rattle.ballot_reader.specs.declared.fault.BRule.{BRule}
-use Rattle.ballot_reader.specs.declared.fault.BRule.TheVariants.{B1, B2, B3, B4, B5, B9, B10}
-use Rattle.ballot_reader.specs.declared.limits.TheConstants.{MOST_LISTED}
+use Rattle.ballots.specs.declared.fault.BRule.{BRule}
+use Rattle.ballots.specs.declared.fault.BRule.TheVariants.{B1, B2, B3, B4, B5, B9, B10}
+use Rattle.ballots.specs.declared.limits.TheConstants.{MOST_LISTED}
 
 same-rule : {A : Type 0} (rule other : BRule) (at place : ℕ) → refused {A = A} rule at ≡ refused other place → rule ≡ other
 same-rule rule other at place h =

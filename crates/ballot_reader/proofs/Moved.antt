@@ -11,11 +11,11 @@ use Rattle.csv_rows.specs.Rows.{Fields}
 use Rattle.file_fault.specs.Refusals.{Refusal, and_then}
 use Rattle.irv_base.specs.Names.{Id, comma, double_quote, has_name_length, is_among, is_name, is_name_byte, is_same, space, tilde, touches_space}
 use Rattle.irv_base.specs.declared.limits.TheConstants.{MOST_RECORDS}
-use Rattle.ballot_reader.specs.Grammar.{Ballot, Contest, ballot_for, ballot_ids, ballot_in, ballot_of, ballot_with, ballots_after, ballots_in, contest_with_id, has_id, ranking_of}
-use Rattle.ballot_reader.specs.Ids.{AreBytes}
+use Rattle.ballots.specs.Grammar.{Ballot, Contest, ballot_for, ballot_ids, ballot_in, ballot_of, ballot_with, ballots_after, ballots_in, contest_with_id, has_id, ranking_of}
+use Rattle.ballot_ids.specs.Ids.{AreBytes}
 use Rattle.ballot_reader.specs.Kept.{rankings_in}
-use Rattle.ballot_reader.specs.declared.fault.BRule.{BRule}
-use Rattle.ballot_reader.specs.declared.fault.BRule.TheVariants.{B4, B9, B10}
+use Rattle.ballots.specs.declared.fault.BRule.{BRule}
+use Rattle.ballots.specs.declared.fault.BRule.TheVariants.{B4, B9, B10}
 use Rattle.ballot_reader.proofs.Adding.{ids-own, same-refl}
 use Rattle.ballot_reader.proofs.Beginning.{ballots-length}
 

@@ -4,8 +4,8 @@ use Rattle.std.specs.List.{list_all}
 use Rattle.std.proofs.lemmas.Bool.{and_from}
 use Rattle.std.proofs.lemmas.List.Folds.{list_all-append}
 use Rattle.irv_base.specs.Names.{Id, is_among, is_name, all_differ}
-use Rattle.ballot_reader.specs.Grammar.{names_of}
-use Rattle.ballot_reader.proofs.Differing.{differ-push, repeated}
+use Rattle.ballots.specs.Grammar.{names_of}
+use Rattle.ballot_ids.proofs.Differing.{differ-push, repeated}
 
 -- the ids are these names and the rest
 pub record NamesSoFar (ids names rest : List Id) : Type 0 where

@@ -10,18 +10,18 @@ use Rattle.csv_rows.specs.Rows.{Fields}
 use Rattle.irv_base.specs.Candidates.{is_distinct}
 use Rattle.irv_base.specs.Names.{Id, all_differ, is_among, is_same}
 use Rattle.irv_base.specs.declared.limits.TheConstants.{MOST_RECORDS}
-use Rattle.ballot_reader.specs.Grammar.{Ballot, Contest, ballot_ids}
+use Rattle.ballots.specs.Grammar.{Ballot, Contest, ballot_ids}
 use Rattle.ballot_reader.specs.Kept.{AllNoted, AreApart, IsKeptUpTo, KeptBallots, KeptPart, counted_for, is_wanted, part_of, parts_from, rankings_in}
-use Rattle.ballot_reader.specs.Noted.{AreNoted}
+use Rattle.ballot_ids.specs.Noted.{AreNoted}
 use Rattle.ballot_reader.specs.Parts.{AreJoined, AreMetApart, ArePutBehind, AreTogether, CanJoin, IsReadAlone, IsReadBehind, part_behind}
-use Rattle.ballot_reader.specs.declared.noted.Noted.{Noted}
+use Rattle.ballot_ids.specs.declared.noted.Noted.{Noted}
 use Rattle.ballot_reader.specs.declared.wanted.Wanted.{Wanted}
 use Rattle.ballot_reader.specs.declared.wanted.Wanted.TheVariants.{VotesOf}
 use Rattle.ballot_reader.proofs.Adding.{length-met, length-parts, met-at, part-at, same_at, same-refl, wanted_part}
-use Rattle.ballot_reader.proofs.Differing.{or-false}
-use Rattle.ballot_reader.proofs.Ended.{got}
+use Rattle.ballot_ids.proofs.Differing.{or-false}
+use Rattle.ballot_ids.proofs.IdBytes.{got}
 use Rattle.ballot_reader.proofs.Moved.{AreOthers, among-bytes, ids-behind, length-moved, moved, rankings-behind, read-alone, read-bytes}
-use Rattle.ballot_reader.proofs.OfBoth.{met-by-one}
+use Rattle.ballot_ids.proofs.OfBoth.{met-by-one}
 
 -- ---- ids that differ
 

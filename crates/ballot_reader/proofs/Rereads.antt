@@ -15,14 +15,14 @@ use Rattle.irv_base.specs.Candidates.{is_in, is_distinct}
 use Rattle.irv_base.specs.Names.{Id, is_name, is_same, is_among, all_differ, candidate_named}
 use Rattle.irv_base.specs.Records.{firsts}
 use Rattle.irv_base.specs.declared.limits.TheConstants.{FEWEST_CANDIDATES, MOST_CANDIDATES, MOST_NUMBER_DIGITS, MOST_RECORDS}
-use Rattle.ballot_reader.specs.Ballots.{BallotFile}
-use Rattle.ballot_reader.specs.Grammar.{Ballot, Contest, all_of, ballot_for, ballot_ids, ballot_in, ballots_after, ballots_behind, ballots_in, contest_named, contest_of, contest_with, file_of, has_audited_size, is_marked, listed, names_of, number_up_to, ranking_of, then_on}
+use Rattle.ballots.specs.Ballots.{BallotFile}
+use Rattle.ballots.specs.Grammar.{Ballot, Contest, all_of, ballot_for, ballot_ids, ballot_in, ballots_after, ballots_behind, ballots_in, contest_named, contest_of, contest_with, file_of, has_audited_size, is_marked, listed, names_of, number_up_to, ranking_of, then_on}
 use Rattle.file_fault.specs.Refusals.{and_then, refused}
 use Rattle.ballot_reader.specs.Laws.{WhatIsSpelledIsRead, ballot_records, id_of}
-use Rattle.ballot_reader.specs.declared.fault.BRule.TheVariants.{B2, B3, B4}
-use Rattle.ballot_reader.specs.declared.limits.TheConstants.{MOST_CONTESTS, MOST_LISTED}
+use Rattle.ballots.specs.declared.fault.BRule.TheVariants.{B2, B3, B4}
+use Rattle.ballots.specs.declared.limits.TheConstants.{MOST_CONTESTS, MOST_LISTED}
 use Rattle.ballot_reader.proofs.Adding.{Meets, ids-own, ranked}
-use Rattle.ballot_reader.proofs.Differing.{differ-split, or-false}
+use Rattle.ballot_ids.proofs.Differing.{differ-split, or-false}
 
 same-itself : (a : Id) → is_same a a ≡ true
 same-itself a = nat_list_eq_equiv.refl a

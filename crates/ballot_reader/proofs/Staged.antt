@@ -8,9 +8,9 @@ use Rattle.csv_rows.specs.Rows.{Fields}
 use Rattle.file_fault.specs.Refusals.{Refuses}
 use Rattle.file_fault.specs.declared.fault.Fault.{Fault}
 use Rattle.irv_base.specs.Names.{Id}
-use Rattle.ballot_reader.specs.Grammar.{ballots_from, ballots_of}
+use Rattle.ballots.specs.Grammar.{ballots_from, ballots_of}
 use Rattle.ballot_reader.specs.Stages.{HasPassed, HasReached, HasRead, HasTaken, HoldsLittle, VotesSoFar}
-use Rattle.ballot_reader.specs.declared.fault.BRule.{BRule}
+use Rattle.ballots.specs.declared.fault.BRule.{BRule}
 use Rattle.ballot_reader.specs.declared.stage.Stage.{Stage}
 use Rattle.ballot_reader.specs.declared.stage.Stage.TheVariants.{Contests, Ballots, Refused}
 

@@ -3,9 +3,9 @@ use Rattle.std.specs.Prelude.{◌≡◌, ◌≤◌, ℕ, List, ◌++◌, length,
 use Rattle.std.specs.List.{slice_get}
 use Rattle.csv_rows.specs.Rows.{Fields}
 use Rattle.irv_base.specs.Names.{Id, all_differ}
-use Rattle.ballot_reader.specs.Grammar.{Ballot, Contest, ballots_after, ballots_from, file_of, then_on}
+use Rattle.ballots.specs.Grammar.{Ballot, Contest, ballots_after, ballots_from, file_of, then_on}
 use Rattle.ballot_reader.specs.Kept.{IsKeptUpTo, KeptBallots, contest_ids}
-use Rattle.ballot_reader.specs.declared.limits.TheConstants.{MOST_CONTESTS}
+use Rattle.ballots.specs.declared.limits.TheConstants.{MOST_CONTESTS}
 use Rattle.ballot_reader.specs.declared.wanted.Wanted.TheVariants.{VotesOf}
 
 -- the contests of a file, the place of the one whose votes are kept, what is kept of the ballots, and the number of the record that comes next

@@ -5,13 +5,13 @@ use Rattle.irv_base.specs.Candidates.{is_distinct}
 use Rattle.irv_base.specs.Names.{Id, all_differ}
 use Rattle.irv_base.specs.declared.limits.TheConstants.{MOST_RECORDS}
 use Rattle.set_tallies.specs.declared.bag.TheConstants.{ALWAYS_SUMMED}
-use Rattle.ballot_reader.specs.Ballots.{BallotFile}
-use Rattle.ballot_reader.specs.Grammar.{Ballot, Contest, ballot_ids, ballots_in, has_audited_size}
-use Rattle.ballot_reader.specs.Noted.{AreNoted}
-use Rattle.ballot_reader.specs.declared.fault.BRule.{BRule}
+use Rattle.ballots.specs.Ballots.{BallotFile}
+use Rattle.ballots.specs.Grammar.{Ballot, Contest, ballot_ids, ballots_in, has_audited_size}
+use Rattle.ballot_ids.specs.Noted.{AreNoted}
+use Rattle.ballots.specs.declared.fault.BRule.{BRule}
 use Rattle.file_fault.specs.declared.fault.Fault.{Fault}
 use Rattle.file_fault.specs.declared.fault.Fault.TheVariants.{Refused, Memory}
-use Rattle.ballot_reader.specs.declared.noted.Noted.{Noted}
+use Rattle.ballot_ids.specs.declared.noted.Noted.{Noted}
 use Rattle.ballot_reader.specs.declared.wanted.Wanted.{Wanted}
 use Rattle.ballot_reader.specs.declared.wanted.Wanted.TheVariants.{One, VotesOf, All as EachContest}
 

@@ -5,11 +5,11 @@ use Rattle.std.specs.List.{Contains, list_all, range_with_len}
 use Rattle.csv_rows.specs.Fields.{numbered_records}
 use Rattle.csv_rows.specs.Rows.{Fields}
 use Rattle.irv_base.specs.Names.{Id, is_name}
-use Rattle.ballot_reader.specs.Ballots.{BallotFile, IsSound}
-use Rattle.ballot_reader.specs.Grammar.{Contest, ballots_from, ballots_of, contest_count, contests_in, contests_of}
+use Rattle.ballots.specs.Ballots.{BallotFile, IsSound}
+use Rattle.ballots.specs.Grammar.{Contest, ballots_from, ballots_of, contest_count, contests_in, contests_of}
 use Rattle.file_fault.specs.Refusals.{Refusal, refused}
-use Rattle.ballot_reader.specs.declared.fault.BRule.{BRule}
-use Rattle.ballot_reader.specs.declared.fault.BRule.TheVariants.{B1, B5}
+use Rattle.ballots.specs.declared.fault.BRule.{BRule}
+use Rattle.ballots.specs.declared.fault.BRule.TheVariants.{B1, B5}
 
 abbrev pub id_of : List Id → ℕ → Id
 id_of candidates c = slice_index_or candidates c []

@@ -1,12 +1,5 @@
-pub mod Ballots
-pub mod Grammar
-pub mod Faults
-pub mod Ids
-pub mod Joined
 pub mod Kept
-pub mod Noted
 pub mod Laws
 pub mod Begun
-pub mod Casts
 pub mod Parts
 pub mod Stages

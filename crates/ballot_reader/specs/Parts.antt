@@ -6,13 +6,13 @@ use Rattle.file_fault.specs.Refusals.{Refuses}
 use Rattle.file_fault.specs.declared.fault.Fault.{Fault}
 use Rattle.irv_base.specs.Names.{Id, all_differ}
 use Rattle.irv_base.specs.declared.limits.TheConstants.{MOST_RECORDS}
-use Rattle.ballot_reader.specs.Grammar.{Ballot, Contest, ballots_after}
+use Rattle.ballots.specs.Grammar.{Ballot, Contest, ballots_after}
 use Rattle.ballot_reader.specs.Kept.{IsKept, IsKeptUpTo, KeptBallots, KeptPart, WantsAudited, contest_ids}
-use Rattle.ballot_reader.specs.Noted.{AreNoted}
-use Rattle.ballot_reader.specs.Joined.{ArePagesApart}
-use Rattle.ballot_reader.specs.declared.fault.BRule.{BRule}
-use Rattle.ballot_reader.specs.declared.limits.TheConstants.{MOST_CONTESTS}
-use Rattle.ballot_reader.specs.declared.noted.Noted.{Noted}
+use Rattle.ballot_ids.specs.Noted.{AreNoted}
+use Rattle.ballot_ids.specs.Joined.{ArePagesApart}
+use Rattle.ballots.specs.declared.fault.BRule.{BRule}
+use Rattle.ballots.specs.declared.limits.TheConstants.{MOST_CONTESTS}
+use Rattle.ballot_ids.specs.declared.noted.Noted.{Noted}
 use Rattle.ballot_reader.specs.declared.wanted.Wanted.{Wanted}
 use Rattle.ballot_reader.specs.declared.wanted.Wanted.TheVariants.{VotesOf}
 

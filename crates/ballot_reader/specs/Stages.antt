@@ -7,8 +7,8 @@ use Rattle.file_fault.specs.Refusals.{Refusal, Refuses}
 use Rattle.file_fault.specs.declared.fault.Fault.TheVariants.{Memory}
 use Rattle.irv_base.specs.Names.{Id}
 use Rattle.ballot_reader.specs.Begun.{HasBegun}
-use Rattle.ballot_reader.specs.Grammar.{ballots_from, ballots_of}
-use Rattle.ballot_reader.specs.declared.fault.BRule.{BRule}
+use Rattle.ballots.specs.Grammar.{ballots_from, ballots_of}
+use Rattle.ballots.specs.declared.fault.BRule.{BRule}
 use Rattle.ballot_reader.specs.declared.stage.Stage.{Stage}
 use Rattle.ballot_reader.specs.declared.stage.TheConstants.{MOST_OF_CONTESTS}
 use Rattle.ballot_reader.specs.declared.stage.Stage.TheVariants.{Contests, Ballots, Refused}

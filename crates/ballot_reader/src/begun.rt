@@ -3,19 +3,18 @@ ghost use Rattle.std.specs.Prelude.{◌≡◌, ◌++◌, List, Option, Ok, IfOk,
 ghost use Rattle.csv_rows.specs.Rows.{Fields as FieldList};
 ghost use Rattle.file_fault.specs.Refusals.{Refuses};
 ghost use Rattle.irv_base.specs.Names.{Id};
-ghost use Rattle.ballot_reader.specs.Ballots.{BallotFile, votes_of};
+ghost use Rattle.ballots.specs.Ballots.{BallotFile, votes_of};
 ghost use Rattle.ballot_reader.specs.Begun.{HasBegun};
-ghost use Rattle.ballot_reader.specs.Grammar.{ballots_from};
+ghost use Rattle.ballots.specs.Grammar.{ballots_from};
 
 use crate::contest::Contest;
-use crate::fault::BallotFault;
 use crate::kept::{Kept, NO_ROOM};
 use crate::read::{
     add_ballots, audited_place, contests_left, first_ballot, first_count, votes_kept,
 };
 use crate::side_by_side::add_lines;
-use crate::votes::Votes;
 use crate::wanted::Wanted;
+use ballots::{BallotFault, Votes};
 use csv_rows::{PlainLines, Records};
 use irv_base::{Memory, Name};
 use std::alloc::Global;

@@ -1,12 +1,10 @@
 // The record of a contest.
 ghost use Rattle.std.specs.Prelude.{◌≡◌, ◌≤◌, IfOk, length, take};
 ghost use Rattle.std.specs.List.{list_any};
-ghost use Rattle.ballot_reader.specs.Grammar.{names_of, has_id, contest_of};
+ghost use Rattle.ballots.specs.Grammar.{names_of, has_id, contest_of};
 
 use crate::count::number_up_to;
-use crate::fault::BRule;
-use crate::limits::MOST_LISTED;
-use crate::listed::Listed;
+use ballots::{BRule, Listed, MOST_LISTED};
 use csv_rows::Fields;
 use irv_base::{Memory, Name};
 use std::alloc::Global;
@@ -25,7 +23,7 @@ pub struct Contest {
 
 impl Model for Contest {
     ghost use Rattle.std.specs.Prelude.{IsTrue};
-    ghost use Rattle.ballot_reader.specs.Grammar.{are_names, Contest as ContestRecord};
+    ghost use Rattle.ballots.specs.Grammar.{are_names, Contest as ContestRecord};
 
     ghost Value = { ContestRecord };
 

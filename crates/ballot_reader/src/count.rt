@@ -1,8 +1,8 @@
 // The first record: the number of contests.
 ghost use Rattle.std.specs.Prelude.{◌≡◌};
-ghost use Rattle.ballot_reader.specs.Grammar.{contest_count, number_up_to};
+ghost use Rattle.ballots.specs.Grammar.{contest_count, number_up_to};
 
-use crate::limits::MOST_CONTESTS;
+use ballots::MOST_CONTESTS;
 use csv_rows::{Fields, number_of};
 
 /// The number from 1 to `most` that is written so.

@@ -1,10 +1,10 @@
-//! Worked examples, computed by the checker: what is on both sides of each limit of a ballot file, and how ids are told apart.
+//! Worked examples, computed by the checker: what is on both sides of each limit of a ballot file, and how ids are distinguished.
 ghost use Rattle.std.specs.Prelude.{◌≡◌, ◌+◌, ◌-◌, ◌%◌, ◌^◌, [], ◌∷◌, Some, None, true, false, codes, replicate};
 ghost use Rattle.irv_base.specs.declared.limits.TheConstants.{FEWEST_CANDIDATES, MOST_CANDIDATES};
-ghost use Rattle.ballot_reader.specs.declared.limits.TheConstants.{MOST_LISTED};
-ghost use Rattle.ballot_reader.specs.Grammar.{contest_count, has_audited_size, number_up_to, ranking_of};
-ghost use Rattle.ballot_reader.specs.Ids.{bit_of, counted, has_bit, page_number};
-ghost use Rattle.ballot_reader.specs.Joined.{share_none};
+ghost use Rattle.ballots.specs.declared.limits.TheConstants.{MOST_LISTED};
+ghost use Rattle.ballots.specs.Grammar.{contest_count, has_audited_size, number_up_to, ranking_of};
+ghost use Rattle.ballot_ids.specs.Ids.{bit_of, counted, has_bit, page_number};
+ghost use Rattle.ballot_ids.specs.Joined.{share_none};
 
 /// A file has 1 to 64 contests.
 pub fn contests()

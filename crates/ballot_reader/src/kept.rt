@@ -1,19 +1,17 @@
 // What is kept of the ballots that are read.
 ghost use Rattle.std.specs.Prelude.{ℕ, ◌≡◌, ◌<◌, ◌++◌, ◌∷◌, [], All, List, Ok, Err, Some, None, IfOk, IfErr, IfSome, IsTrue, length, position, slice_get, slice_set, not, true, if◌then◌else◌};
 ghost use Rattle.irv_base.specs.Names.{Id, all_differ, is_among};
-ghost use Rattle.ballot_reader.specs.Grammar.{Ballot, Contest as ContestRecord, ballot_for, ballot_in, ballot_of, has_id};
+ghost use Rattle.ballots.specs.Grammar.{Ballot, Contest as ContestRecord, ballot_for, ballot_in, ballot_of, has_id};
 ghost use Rattle.ballot_reader.specs.Kept.{EachCountsOwn, IsKept, KeepsAudited, RefusesRecord, WantsAudited, contest_ids, empty_part, is_wanted, keeps_origins, parts_from};
-ghost use Rattle.ballot_reader.specs.Noted.{AreNoted};
-ghost use Rattle.ballot_reader.specs.declared.noted.Noted.{Noted as NotedIds};
+ghost use Rattle.ballot_ids.specs.Noted.{AreNoted};
+ghost use Rattle.ballot_ids.specs.declared.noted.Noted.{Noted as NotedIds};
 ghost use Rattle.ballot_reader.specs.declared.wanted.Wanted.{Wanted as WantedContests};
 
 use crate::contest::Contest;
-use crate::fault::{BRule, BallotFault};
-use crate::name_test::is_name;
-use crate::noted::Noted;
 use crate::part::{Part, keep};
-use crate::same::is_same;
 use crate::wanted::Wanted;
+use ballot_ids::{Noted, is_name, is_same};
+use ballots::{BRule, BallotFault};
 use csv_rows::Fields;
 use irv_base::{MOST_RECORDS, Memory};
 use std::alloc::Global;
@@ -83,7 +81,7 @@ pub struct Kept {
 impl Model for Kept {
     ghost use Rattle.std.specs.Coded.{codes};
     ghost use Rattle.ballot_reader.specs.Kept.{KeptBallots};
-    ghost use Rattle.ballot_reader.specs.contracts.noted.Noted as e;
+    ghost use Rattle.ballot_ids.specs.contracts.noted.Noted as e;
 
     ghost Value = { KeptBallots };
 

@@ -1,13 +1,13 @@
 // What is kept of ballots that are read side by side, put together.
 ghost use Rattle.std.specs.Prelude.{◌≡◌, ◌<◌, ◌↔◌, Option, Some, OnOk, IsTrue, length, option_map, slice_get, slice_set};
-ghost use Rattle.ballot_reader.specs.Joined.{ArePagesApart};
+ghost use Rattle.ballot_ids.specs.Joined.{ArePagesApart};
 ghost use Rattle.ballot_reader.specs.Kept.{KeptPart};
 ghost use Rattle.ballot_reader.specs.Parts.{AreAlike, AreJoined, AreMetApart, ArePutBehind, CanJoin, IsJoined, IsKeptBehind, form_of, part_behind, with_rankings};
-ghost use Rattle.ballot_reader.specs.declared.noted.Noted.{Noted as NotedIds};
+ghost use Rattle.ballot_ids.specs.declared.noted.Noted.{Noted as NotedIds};
 
 use crate::kept::Kept;
-use crate::noted::Noted;
 use crate::part::Part;
+use ballot_ids::Noted;
 use irv_base::{MOST_RECORDS, Memory};
 
 // Whether it is seen of each contest that no id was met in both.

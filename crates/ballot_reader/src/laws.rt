@@ -1,7 +1,7 @@
 //! The laws of ballot files. None has code.
 ghost use Rattle.std.specs.Prelude.{◌≡◌};
 ghost use Rattle.ballot_reader.specs.Laws.{ContestsAreEach, NoneIsMissed, WhatIsSpelledIsRead};
-ghost use Rattle.ballot_reader.specs.declared.limits.TheConstants as limit;
+ghost use Rattle.ballots.specs.declared.limits.TheConstants as limit;
 ghost use Rattle.ballot_reader.specs.declared.stage.TheConstants as stage;
 ghost use Rattle.ballot_reader.specs.declared.votes_reader.TheConstants as reader;
 

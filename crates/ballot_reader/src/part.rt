@@ -1,15 +1,12 @@
 // What is kept of the ballots of one contest.
 ghost use Rattle.std.specs.Prelude.{ℕ, ◌≡◌, ◌<◌, ◌≤◌, ◌++◌, ◌∷◌, [], List, Option, Some, None, IfOk, IfSome, OnOk, IsTrue, is_some, length, option_map, slice_get, slice_set, if◌then◌else◌};
 ghost use Rattle.set_tallies.specs.declared.bag.TheConstants.{ALWAYS_SUMMED};
-ghost use Rattle.ballot_reader.specs.Grammar.{has_audited_size, ranking_of};
+ghost use Rattle.ballots.specs.Grammar.{has_audited_size, ranking_of};
 ghost use Rattle.ballot_reader.specs.Kept.{CountsOwn, KeptPart, counted_for, empty_part, no_origins, with_ballot, with_origin};
 ghost use Rattle.ballot_reader.specs.Parts.{with_rankings};
 
-use crate::cast::Cast;
 use crate::contest::Contest;
-use crate::guesses::Guesses;
-use crate::ids::Ids;
-use crate::preferences::are_candidates;
+use ballots::{Cast, Guesses, Ids, are_candidates};
 use csv_rows::Fields;
 use irv_base::Memory;
 use set_tallies::ALWAYS_SUMMED;
@@ -70,7 +67,7 @@ pub struct Part {
 }
 
 impl Model for Part {
-    ghost use Rattle.ballot_reader.specs.Casts.{counted_of, rankings_of};
+    ghost use Rattle.ballots.specs.Casts.{counted_of, rankings_of};
     ghost use Rattle.ballot_reader.specs.Kept.{KeptPart};
 
     ghost Value = { KeptPart };

@@ -8,18 +8,18 @@
 ghost use Rattle.std.specs.Prelude.{ℕ, ◌≤◌, List, IfOk, IfErr, IfSome, IsTrue, length};
 ghost use Rattle.std.specs.Thread.{IsSync};
 ghost use Rattle.irv_base.specs.Names.{all_differ};
-ghost use Rattle.ballot_reader.specs.Grammar.{Ballot};
+ghost use Rattle.ballots.specs.Grammar.{Ballot};
 ghost use Rattle.ballot_reader.specs.Kept.{IsKeptUpTo, contest_ids};
 ghost use Rattle.ballot_reader.specs.Parts.{CanBeRead, ComeBehind, IsAnswer, IsReadAlone, IsRefusedBehind};
-ghost use Rattle.ballot_reader.specs.declared.limits.TheConstants.{MOST_CONTESTS};
+ghost use Rattle.ballots.specs.declared.limits.TheConstants.{MOST_CONTESTS};
 ghost use Rattle.ballot_reader.specs.declared.wanted.Wanted.{Wanted as WantedContests};
 ghost use Rattle.ballot_reader.specs.declared.wanted.Wanted.TheVariants.{VotesOf};
 
 use crate::contest::Contest;
-use crate::fault::BallotFault;
 use crate::kept::{Kept, NO_ROOM};
 use crate::read::{add_ballots, ballots_left};
 use crate::wanted::Wanted;
+use ballots::BallotFault;
 use csv_rows::PlainLines;
 use file_fault::Fault;
 use irv_base::Memory;
@@ -191,7 +191,7 @@ fn add_parts<R: Threads + Sync>(
     put_behind(contests, audited, kept, next?, part?, &behind)
 }
 
-// How many workers read these lines. Where ids stand elsewhere than on pages, nothing can be put behind them.
+// How many workers read these lines. If ids aren't all on pages, nothing can be put after them.
 fn workers_for(kept: &Kept, lines: &PlainLines<'_>, workers: u32) -> usize {
     if workers <= 1 || !kept.are_paged() {
         return 1;

@@ -5,15 +5,14 @@ ghost use Rattle.csv_rows.specs.Pieces.{StandApart};
 ghost use Rattle.csv_rows.specs.Rows.{Fields as FieldList};
 ghost use Rattle.file_fault.specs.Refusals.{Refuses};
 ghost use Rattle.irv_base.specs.Names.{Id};
-ghost use Rattle.ballot_reader.specs.Ballots.{BallotFile, votes_of};
+ghost use Rattle.ballots.specs.Ballots.{BallotFile, votes_of};
 ghost use Rattle.ballot_reader.specs.Begun.{HasBegun};
-ghost use Rattle.ballot_reader.specs.Grammar.{ballots_from};
+ghost use Rattle.ballots.specs.Grammar.{ballots_from};
 ghost use Rattle.ballot_reader.specs.Stages.{HasReached, HoldsLittle, IsShort, LacksContests};
 ghost use Rattle.ballot_reader.specs.declared.stage.Stage.TheVariants.{Contests};
 
 use crate::begun::{Begun, begin};
-use crate::fault::BallotFault;
-use crate::votes::Votes;
+use ballots::{BallotFault, Votes};
 use csv_rows::{Pieces, PlainLines, Records};
 use file_fault::Fault;
 use irv_base::{Memory, Name};

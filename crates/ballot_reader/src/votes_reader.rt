@@ -2,16 +2,15 @@
 ghost use Rattle.std.specs.Prelude.{◌≡◌, ◌≤◌, ◌++◌, [], ℕ, List, Ok, IfOk, IfErr, OnOk, OnErr};
 ghost use Rattle.file_fault.specs.Refusals.{Refuses};
 ghost use Rattle.file_fault.specs.declared.fault.Fault.{Fault as FaultOf};
-ghost use Rattle.ballot_reader.specs.Ballots.{BallotFile, votes_of};
-ghost use Rattle.ballot_reader.specs.Grammar.{ballots_of};
+ghost use Rattle.ballots.specs.Ballots.{BallotFile, votes_of};
+ghost use Rattle.ballots.specs.Grammar.{ballots_of};
 ghost use Rattle.ballot_reader.specs.Stages.{HasPassed, HasTaken, IsShort};
-ghost use Rattle.ballot_reader.specs.declared.fault.BRule.{BRule as BallotRule};
+ghost use Rattle.ballots.specs.declared.fault.BRule.{BRule as BallotRule};
 ghost use Rattle.ballot_reader.specs.declared.stage.Stage.TheVariants.{Refused};
 ghost use Rattle.ballot_reader.specs.declared.votes_reader.TheConstants.{SIDE_BY_SIDE};
 
-use crate::fault::BallotFault;
 use crate::stage::Stage;
-use crate::votes::Votes;
+use ballots::{BallotFault, Votes};
 use csv_rows::{Pieces, Records, without_mark};
 use file_fault::Fault;
 use irv_base::{Memory, Name};

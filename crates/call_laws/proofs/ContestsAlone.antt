@@ -6,8 +6,8 @@ use Rattle.csv_rows.specs.Fields.{numbered_records}
 use Rattle.csv_rows.specs.Rows.{Fields}
 use Rattle.desk.specs.Desk.{File}
 use Rattle.irv_base.specs.Names.{Id, is_same}
-use Rattle.ballot_reader.specs.Ballots.{BallotFile}
-use Rattle.ballot_reader.specs.Grammar.{contests_from}
+use Rattle.ballots.specs.Ballots.{BallotFile}
+use Rattle.ballots.specs.Grammar.{contests_from}
 use Rattle.manifest.specs.Cards.{Batches}
 use Rattle.manifest.specs.Manifest.{manifest_of}
 use Rattle.seen_file.specs.Reading.{card_of, read_after, with_card}

@@ -1,8 +1,8 @@
 -- An audit of all contests has one end, if the nodes are enough for each contest that is held.
 use Rattle.std.proofs.Common.{◌≡◌, inl, inr, ℕ, List, All, Some, Result, Ok, Err, refl, sym, ap, subst, ◌∙◌}
 use Rattle.desk.specs.Desk.{File, held_bytes}
-use Rattle.ballot_reader.specs.Ballots.{BallotFile}
-use Rattle.ballot_reader.specs.Grammar.{contests_of}
+use Rattle.ballots.specs.Ballots.{BallotFile}
+use Rattle.ballots.specs.Grammar.{contests_of}
 use Rattle.manifest.specs.Manifest.{manifest_of}
 use Rattle.contest_set.specs.SeenBy.{seen_by}
 use Rattle.cli_base.specs.Outcome.{Outcome, Verdict, outcome}

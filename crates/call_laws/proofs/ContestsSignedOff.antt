@@ -6,9 +6,9 @@ use Rattle.std.proofs.lemmas.List.Elements.{All-head, All-weaker}
 use Rattle.csv_rows.specs.Fields.{numbered_records}
 use Rattle.irv_base.specs.Names.{Id}
 use Rattle.irv_base.specs.declared.limits.TheConstants.{GREATEST_LIMIT}
-use Rattle.ballot_reader.specs.Ballots.{BallotFile}
-use Rattle.ballot_reader.specs.Grammar.{Contest, ballots_of, contests_of}
-use Rattle.ballot_reader.specs.declared.fault.BRule.{BRule}
+use Rattle.ballots.specs.Ballots.{BallotFile}
+use Rattle.ballots.specs.Grammar.{Contest, ballots_of, contests_of}
+use Rattle.ballots.specs.declared.fault.BRule.{BRule}
 use Rattle.file_fault.specs.Refusals.{Refusal}
 use Rattle.ballot_reader.specs.Laws.{IsOfEach, contests_listed}
 use Rattle.ballot_reader.proofs.Each.{contests_are_each}

@@ -16,9 +16,9 @@ use Rattle.assertion_file.specs.Ids.{id_of}
 use Rattle.assertion_file.specs.Reading.{assertion_file_of}
 use Rattle.assertion_file.specs.Text.{assertion_file_text, file_value}
 use Rattle.assertion_file.proofs.Printed.{printed_reads_back}
-use Rattle.ballot_reader.specs.Ballots.{BallotFile}
-use Rattle.ballot_reader.specs.Grammar.{ballots_of}
-use Rattle.ballot_reader.specs.declared.fault.BRule.TheVariants.{B1}
+use Rattle.ballots.specs.Ballots.{BallotFile}
+use Rattle.ballots.specs.Grammar.{ballots_of}
+use Rattle.ballots.specs.declared.fault.BRule.TheVariants.{B1}
 use Rattle.cli_base.specs.Outcome.{Verdict, Answered, outcome, bad_words, no_such_file, too_long}
 use Rattle.cli_base.specs.Script.{Ends, Bytes, Missing, TooLong, AsHeld, May, MayCome, limit, reading_of}
 use Rattle.cli_base.specs.declared.outcome.AnswerKind.TheVariants.{Done, Tie, Spent, FullCount}

@@ -5,8 +5,8 @@ use Rattle.desk.specs.Desk.{File, held_bytes}
 use Rattle.assertion_file.specs.Content.{Content}
 use Rattle.assertion_file.specs.Reading.{assertion_file_of}
 use Rattle.budget.specs.declared.budget.Budget.TheVariants.{Sets}
-use Rattle.ballot_reader.specs.Ballots.{BallotFile}
-use Rattle.ballot_reader.specs.Grammar.{ballots_of}
+use Rattle.ballots.specs.Ballots.{BallotFile}
+use Rattle.ballots.specs.Grammar.{ballots_of}
 use Rattle.cli_base.specs.Outcome.{Outcome, Answered, outcome}
 use Rattle.cli_base.specs.Script.{AsHeld, Concludes, May, MayCome, limit}
 use Rattle.cli_base.specs.declared.outcome.AnswerKind.TheVariants.{Done}

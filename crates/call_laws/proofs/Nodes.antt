@@ -1,7 +1,7 @@
 -- The default number of nodes suffices for contests of up to nine candidates.
 use Rattle.std.proofs.Common.{ℕ, zero, suc, ◌≤◌, ◌-◌, ◌*◌, List, arith}
 use Rattle.assertions.specs.Suffixes.{factorial}
-use Rattle.ballot_reader.specs.Ballots.{BallotFile}
+use Rattle.ballots.specs.Ballots.{BallotFile}
 use Rattle.budget.specs.declared.limits.TheConstants.{DEFAULT_NODES}
 use Rattle.contest_search.specs.Budget.{nodes_for}
 use Rattle.contest_search.specs.Contest.{candidate_count, IsOther}

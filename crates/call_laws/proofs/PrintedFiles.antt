@@ -13,8 +13,8 @@ use Rattle.cover_checker.specs.Checks.{IsAnswer}
 use Rattle.cover_checker.specs.Draws.{IsPlanOf}
 use Rattle.cover_checker.specs.declared.checked.Checked.TheVariants.{Accepted}
 use Rattle.budget.specs.declared.budget.Budget.{Budget}
-use Rattle.ballot_reader.specs.Ballots.{BallotFile}
-use Rattle.ballot_reader.specs.Grammar.{ballots_of}
+use Rattle.ballots.specs.Ballots.{BallotFile}
+use Rattle.ballots.specs.Grammar.{ballots_of}
 use Rattle.manifest.specs.Cards.{Batches}
 use Rattle.manifest.specs.Linked.{first_without_card}
 use Rattle.manifest.specs.Manifest.{manifest_of}

@@ -18,8 +18,8 @@ use Rattle.assertion_file.specs.Content.{Content as FileContent, IsMargin, IsSou
 use Rattle.assertion_file.specs.Reading.{assertion_file_of}
 use Rattle.assertion_file.specs.Text.{assertion_file_text, file_value}
 use Rattle.assertion_file.proofs.Printed.{printed_reads_back}
-use Rattle.ballot_reader.specs.Ballots.{BallotFile}
-use Rattle.ballot_reader.specs.Grammar.{ballots_of}
+use Rattle.ballots.specs.Ballots.{BallotFile}
+use Rattle.ballots.specs.Grammar.{ballots_of}
 use Rattle.manifest.specs.Cards.{Batches, cards_of}
 use Rattle.manifest.specs.Linked.{first_without_card, linked_of}
 use Rattle.manifest.specs.Manifest.{manifest_of}

@@ -4,7 +4,7 @@ use Rattle.std.specs.List.{slice_get}
 use Rattle.desk.specs.Desk.{File}
 use Rattle.csv_rows.specs.Fields.{numbered_records}
 use Rattle.irv_base.specs.Names.{Id}
-use Rattle.ballot_reader.specs.Ballots.{BallotFile}
+use Rattle.ballots.specs.Ballots.{BallotFile}
 use Rattle.contest_set.specs.Laws.{records_about}
 use Rattle.contest_set.specs.declared.end.ContestEnd.{ContestEnd}
 use Rattle.command.specs.declared.contests.ContestsTask.{ContestsTask}

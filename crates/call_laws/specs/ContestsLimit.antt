@@ -3,7 +3,7 @@ use Rattle.std.specs.Prelude.{◌≡◌, ◌≤◌, ℕ, true, List, length, Som
 use Rattle.std.specs.List.{slice_get}
 use Rattle.std.specs.declared.alloc.Global.{Global}
 use Rattle.desk.specs.Desk.{File}
-use Rattle.ballot_reader.specs.Ballots.{BallotFile}
+use Rattle.ballots.specs.Ballots.{BallotFile}
 use Rattle.manifest.specs.Cards.{cards_of}
 use Rattle.manifest.specs.Linked.{linked_of}
 use Rattle.assertion_file.specs.Content.{Content}

@@ -5,8 +5,8 @@ use Rattle.std.specs.Prelude.{◌≡◌, ◌≢◌, ℕ, ◌*◌, ◌^◌, ◌�
 use Rattle.std.specs.List.{slice_get}
 use Rattle.std.specs.declared.alloc.Global.{Global}
 use Rattle.desk.specs.Desk.{File}
-use Rattle.ballot_reader.specs.Ballots.{BallotFile}
-use Rattle.ballot_reader.specs.Grammar.{contests_of}
+use Rattle.ballots.specs.Ballots.{BallotFile}
+use Rattle.ballots.specs.Grammar.{contests_of}
 use Rattle.manifest.specs.Cards.{Batches, cards_of}
 use Rattle.manifest.specs.Manifest.{manifest_of}
 use Rattle.assertion_file.specs.Content.{Content, candidate_count}

@@ -52,7 +52,7 @@ pub record AnnouncedEachPoll : Type 0 where
 
 -- ---- what is counted
 
--- The cards have these actual rankings, and no poll goes beyond so many draws.
+-- The cards have these actual rankings, and no poll goes beyond this many draws.
 module _ (announced : AnnouncedEachPoll) (actual : List (List ℕ)) (most : ℕ) where
   -- a poll of what was announced confirms all claims, and its seed draws this sequence
   pub record IsEachConfirmedOn (sequence : List ℕ) : Type 0 where

@@ -10,7 +10,7 @@ use Rattle.session_state.specs.Content.{Content}
 use Rattle.session_state.specs.Sessions.{is_signed_off}
 use Rattle.session_state.specs.RiskOfValues.{MayBeSignedOff}
 use Rattle.audit_session.specs.Laws.{AreTrueEntries}
-use Rattle.ballot_reader.specs.Ballots.{BallotFile, AreCandidates}
+use Rattle.ballots.specs.Ballots.{BallotFile, AreCandidates}
 use Rattle.claims_file.specs.Claimed.{AreSound, Claimed}
 use Rattle.adoption.specs.Adopted.{each_once}
 use Rattle.cli_base.specs.Outcome.{Outcome}

@@ -5,7 +5,7 @@ use Rattle.budget.specs.declared.budget.Budget.TheVariants.{Sets}
 use Rattle.desk.specs.Desk.{File, held_bytes}
 use Rattle.irv_base.specs.Names.{Id}
 use Rattle.irv_base.specs.declared.limits.TheConstants.{MOST_FILE_BYTES}
-use Rattle.ballot_reader.specs.Ballots.{BallotFile}
+use Rattle.ballots.specs.Ballots.{BallotFile}
 use Rattle.manifest.specs.Cards.{Batches}
 use Rattle.manifest.specs.Linked.{first_without_card}
 use Rattle.manifest.specs.Manifest.{manifest_of}

@@ -13,8 +13,8 @@ use Rattle.assertions.specs.Suffixes.{alternative_orders}
 use Rattle.assertions.proofs.Endings.{alternative_orders_are}
 use Rattle.assertions.proofs.Refuters.{refuter-first}
 use Rattle.budget.specs.declared.budget.Budget.{Budget}
-use Rattle.ballot_reader.specs.Ballots.{BallotFile}
-use Rattle.ballot_reader.specs.Grammar.{ballots_of}
+use Rattle.ballots.specs.Ballots.{BallotFile}
+use Rattle.ballots.specs.Grammar.{ballots_of}
 use Rattle.assertion_file.specs.Content.{Content, Plan}
 use Rattle.assertion_file.specs.Reading.{assertion_file_of}
 use Rattle.cover_checker.specs.Covers.{stands, standing_order, spent_by, verdict_on as cover_verdict, or_spent, covered_is}

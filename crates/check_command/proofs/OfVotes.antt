@@ -1,6 +1,6 @@
 -- What a check says of votes, it says of the ballots that they are of.
 use Rattle.budget.specs.declared.budget.Budget.{Budget}
-use Rattle.ballot_reader.specs.Ballots.{BallotFile, votes_of}
+use Rattle.ballots.specs.Ballots.{BallotFile, votes_of}
 use Rattle.assertion_file.specs.Content.{Content}
 use Rattle.cover_checker.proofs.OfVotes.{answer_there}
 use Rattle.cli_base.specs.Outcome.{Verdict}

@@ -2,7 +2,7 @@
 ghost use Rattle.std.specs.Prelude.{◌≡◌, ◌≤◌, ◌<◌, length, IsTrue};
 ghost use Rattle.irv_base.specs.Orders.{is_order};
 ghost use Rattle.desk.specs.Count.{Rose};
-ghost use Rattle.ballot_reader.specs.Ballots.{BallotFile, votes_of};
+ghost use Rattle.ballots.specs.Ballots.{BallotFile, votes_of};
 ghost use Rattle.assertion_file.specs.Ids.{id_of};
 ghost use Rattle.cli_base.specs.Accounts.{IsAccountedFor};
 ghost use Rattle.cli_base.specs.Begun.{HasCome};
@@ -21,7 +21,7 @@ use crate::check_texts::{
     has_margin, is_refuted_by, needs, no, smallest_is, stands, winner_is, yes,
 };
 use assertion_file::{AssertionFile, id_of};
-use ballot_reader::Votes;
+use ballots::Votes;
 use budget::Budget;
 use cli_base::{Answer, AnswerKind, Refusal};
 use command::{CheckTask, FileName};

@@ -13,7 +13,7 @@ pub struct SearchFewestTask {
     pub contest: Option<Name>,
     /// How many threads read the ballots and sum them.
     pub workers: u32,
-    /// The most sets of candidates that may stand beside the NEBs of the best margin.
+    /// The most sets of candidates that no NEB of the best margin may keep out.
     pub sets: u32,
     /// The least margin of a search, in votes.
     pub floor: u32,

@@ -2,7 +2,7 @@
 
 use budget::Budget;
 
-/// What a search comes to of a contest whose records a number draws.
+/// What a search of a contest whose records are drawn from a number is asked to do.
 #[derive(Clone, Copy)]
 pub struct TrialTask {
     /// The number that it is drawn from.

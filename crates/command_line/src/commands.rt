@@ -55,7 +55,7 @@ pub enum Command {
     AuditPlurality(AuditPluralityTask),
     /// One round of an audit of each contest of a ballot file.
     Contests(ContestsTask),
-    /// What a search comes to of a contest whose records a number draws.
+    /// What a search of a contest whose records are drawn from a number is asked to do.
     Trial(TrialTask),
 }
 

@@ -9,8 +9,8 @@ use Rattle.assertions.proofs.Alternatives.{order_is}
 use Rattle.assertions.proofs.Endings.{alternative_orders_are}
 use Rattle.assertions.proofs.Decided.{decided-positive}
 use Rattle.irv_base.specs.Names.{Id}
-use Rattle.ballot_reader.specs.Ballots.{BallotFile}
-use Rattle.ballot_reader.specs.Grammar.{ballots_of}
+use Rattle.ballots.specs.Ballots.{BallotFile}
+use Rattle.ballots.specs.Grammar.{ballots_of}
 use Rattle.assertions.specs.declared.assertion.Claim.{Claim}
 use Rattle.assertion_file.specs.Content.{Content, Plan, IsMargin, IsSound, IsSoundClaim, IsSoundPlan}
 use Rattle.assertion_file.specs.Reading.{assertion_file_of}

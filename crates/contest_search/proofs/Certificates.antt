@@ -1,7 +1,7 @@
 -- A contest has one certificate, and it has one where it is decided.
 use Rattle.std.proofs.Common.{◌≡◌, ℕ, ◌<◌, Some, refl, sym, ap, subst, ◌∙◌}
 use Rattle.assertions.proofs.Alternatives.{order_is}
-use Rattle.ballot_reader.specs.Ballots.{BallotFile}
+use Rattle.ballots.specs.Ballots.{BallotFile}
 use Rattle.assertion_file.specs.Content.{Content}
 use Rattle.contest_search.specs.Certificate.{low_of, order_of, certificate_of, IsCertificateOfDecided}
 use Rattle.contest_search.specs.Contest.{candidate_count, IsWon, IsElected}

@@ -4,7 +4,7 @@ use Rattle.irv_base.proofs.Members.{Member, here, member-append_right}
 use Rattle.irv_base.proofs.Orders.{order_facts}
 use Rattle.irv_base.proofs.Tabulated.{tabulated_exists, tabulated_is_one}
 use Rattle.assertions.proofs.Decided.{some-last}
-use Rattle.ballot_reader.specs.Ballots.{BallotFile}
+use Rattle.ballots.specs.Ballots.{BallotFile}
 use Rattle.cover_checker.proofs.OneAnswer.{one_winner}
 use Rattle.contest_search.specs.Contest.{candidate_count, IsWon}
 

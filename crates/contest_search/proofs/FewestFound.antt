@@ -11,7 +11,7 @@ use Rattle.assertions.specs.Suffixes.{IsAlternative}
 use Rattle.assertions.proofs.Alternatives.{order_is}
 use Rattle.assertions.proofs.Decided.{positive-decided}
 use Rattle.assertions.proofs.Endings.{alternative_orders_are}
-use Rattle.ballot_reader.specs.Ballots.{BallotFile}
+use Rattle.ballots.specs.Ballots.{BallotFile}
 use Rattle.assertion_file.specs.Content.{Content, IsMargin, IsSoundClaim}
 use Rattle.set_tallies.specs.Bags.{Kept, IsOf}
 use Rattle.irv_tabulator.specs.declared.tabulated.Tabulated.{Tabulated}

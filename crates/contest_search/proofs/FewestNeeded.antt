@@ -4,7 +4,7 @@ use Rattle.std.specs.Prelude.{max, if◌then◌else◌}
 use Rattle.std.proofs.lemmas.Bool.{cases_lt}
 use Rattle.assertions.specs.Hardness.{first_bound}
 use Rattle.assertions.proofs.Decided.{positive-decided}
-use Rattle.ballot_reader.specs.Ballots.{BallotFile}
+use Rattle.ballots.specs.Ballots.{BallotFile}
 use Rattle.assertion_file.specs.Content.{Content}
 use Rattle.budget.specs.declared.budget.Budget.TheVariants.{Sets}
 use Rattle.nen_cut.specs.Floors.{sets_beside}

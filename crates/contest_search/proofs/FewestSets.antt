@@ -1,6 +1,6 @@
 -- How many sets suffice for a search for the fewest NENs, and where they don't.
 use Rattle.std.proofs.Common.{◌≡◌, ℕ, zero, suc, ◌-◌, ◌^◌, ◌<◌, ◌≤◌, List, ap, arith}
-use Rattle.ballot_reader.specs.Ballots.{BallotFile}
+use Rattle.ballots.specs.Ballots.{BallotFile}
 use Rattle.fewest_search.specs.Sets.{fewest_sets}
 use Rattle.fewest_search.proofs.Needs.{sets_are_few as few_sets}
 use Rattle.contest_search.specs.Contest.{candidate_count, IsWon}

@@ -21,7 +21,7 @@ use Rattle.assertions.proofs.Certificates.{certificate_is_proper, certificate_is
 use Rattle.assertions.proofs.Endings.{alternative_orders_are}
 use Rattle.assertions.proofs.Listings.{start_is_alternative}
 use Rattle.assertions.proofs.Decided.{decided_exactly, positive-decided}
-use Rattle.ballot_reader.specs.Ballots.{BallotFile}
+use Rattle.ballots.specs.Ballots.{BallotFile}
 use Rattle.assertion_file.specs.Content.{Content, IsMargin, IsSoundClaim}
 use Rattle.set_tallies.specs.Bags.{Kept, IsOf}
 use Rattle.irv_tabulator.specs.Results.{IsTabulation, IsTieOf}

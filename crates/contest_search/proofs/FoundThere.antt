@@ -2,7 +2,7 @@
 use Rattle.std.proofs.Common.{◌≡◌, ◌⊎◌, inl, inr, ℕ, List, subst}
 use Rattle.budget.specs.declared.budget.Budget.{Budget}
 use Rattle.budget.specs.declared.budget.Budget.TheVariants.{Nodes, Sets}
-use Rattle.ballot_reader.specs.Ballots.{BallotFile, votes_of}
+use Rattle.ballots.specs.Ballots.{BallotFile, votes_of}
 use Rattle.assertion_file.specs.Content.{Content}
 use Rattle.contest_search.specs.Budget.{IsInBudget, IsTold, IsRaceSpent, IsCertificateSpent, IsSpent, IsSpentBySets, IsSpentIn, IsSpentBySetsIn}
 use Rattle.contest_search.specs.Certificate.{IsCertificateOfDecided}

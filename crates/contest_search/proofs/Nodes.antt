@@ -5,7 +5,7 @@ use Rattle.assertions.specs.Certificate.{cover_count}
 use Rattle.assertions.proofs.Few.{parts_are_few, counts_are_few}
 use Rattle.bound_search.specs.Race.{work_for}
 use Rattle.bound_search.proofs.Fewness.{work_few}
-use Rattle.ballot_reader.specs.Ballots.{BallotFile}
+use Rattle.ballots.specs.Ballots.{BallotFile}
 use Rattle.contest_search.specs.Budget.{order_count_of, certificate_nodes, nodes_for, IsRaceSpent, IsCertificateSpent, IsSpent}
 use Rattle.contest_search.specs.Certificate.{low_of, margin_of, order_of}
 use Rattle.contest_search.specs.Contest.{candidate_count, IsOther}

@@ -9,11 +9,11 @@ use Rattle.irv_base.specs.declared.limits.TheConstants.{FEWEST_CANDIDATES, MOST_
 use Rattle.irv_base.proofs.Members.{Member, here, member-append_cases, member_cases, member_nil, from_find}
 use Rattle.csv_rows.specs.Rows.{Fields}
 use Rattle.csv_rows.specs.Fields.{numbered_records}
-use Rattle.ballot_reader.specs.Ballots.{BallotFile}
-use Rattle.ballot_reader.specs.declared.fault.BRule.{BRule}
-use Rattle.ballot_reader.specs.declared.fault.BRule.TheVariants.{B2, B3, B4, B10}
-use Rattle.ballot_reader.specs.declared.limits.TheConstants.{MOST_LISTED}
-use Rattle.ballot_reader.specs.Grammar.{Contest, Ballot, then_on, are_names, has_id, listed, number_up_to, contest_named, contest_with, contest_of, contests_in, asked_for, has_audited_size, audited_contest, ballots_in, ballot_in, ballots_after, contest_count, ballots_behind, ballots_from, ballots_of}
+use Rattle.ballots.specs.Ballots.{BallotFile}
+use Rattle.ballots.specs.declared.fault.BRule.{BRule}
+use Rattle.ballots.specs.declared.fault.BRule.TheVariants.{B2, B3, B4, B10}
+use Rattle.ballots.specs.declared.limits.TheConstants.{MOST_LISTED}
+use Rattle.ballots.specs.Grammar.{Contest, Ballot, then_on, are_names, has_id, listed, number_up_to, contest_named, contest_with, contest_of, contests_in, asked_for, has_audited_size, audited_contest, ballots_in, ballot_in, ballots_after, contest_count, ballots_behind, ballots_from, ballots_of}
 use Rattle.file_fault.specs.Refusals.{and_then, Refusal, refused}
 use Rattle.contest_search.specs.Contest.{candidate_count}
 

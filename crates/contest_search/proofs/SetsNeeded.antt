@@ -1,6 +1,6 @@
 -- How many sets suffice for a search, and where they don't.
 use Rattle.std.proofs.Common.{◌≡◌, ℕ, zero, suc, ◌-◌, ◌^◌, ◌<◌, ◌≤◌, List, ap, arith}
-use Rattle.ballot_reader.specs.Ballots.{BallotFile}
+use Rattle.ballots.specs.Ballots.{BallotFile}
 use Rattle.assertions.specs.Hardness.{first_bound}
 use Rattle.set_search.specs.Sets.{sets_for}
 use Rattle.set_search.proofs.Deciding.{sets_are_few as few_sets}

@@ -7,7 +7,7 @@ use Rattle.assertions.specs.Hardness.{first_bound, start_order}
 use Rattle.assertions.specs.Suffixes.{IsAlternative}
 use Rattle.bound_search.specs.Race.{work_for}
 use Rattle.set_search.specs.Sets.{sets_for}
-use Rattle.ballot_reader.specs.Ballots.{BallotFile}
+use Rattle.ballots.specs.Ballots.{BallotFile}
 use Rattle.contest_search.specs.Contest.{candidate_count, IsWon, IsOther}
 use Rattle.contest_search.specs.Certificate.{low_of, margin_of, order_of}
 

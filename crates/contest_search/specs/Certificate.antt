@@ -2,7 +2,7 @@
 use Rattle.std.specs.Prelude.{◌≡◌, ℕ, List, length, Option, None, Some}
 use Rattle.assertions.specs.Certificate.{certificate_claims, certificate_order}
 use Rattle.assertions.specs.Hardness.{low, best_margin}
-use Rattle.ballot_reader.specs.Ballots.{BallotFile}
+use Rattle.ballots.specs.Ballots.{BallotFile}
 use Rattle.assertion_file.specs.Content.{Content}
 use Rattle.contest_search.specs.Contest.{candidate_count, IsWon, IsElected}
 

@@ -1,7 +1,7 @@
 -- The contest that is searched: its winner, and its first tie.
 use Rattle.std.specs.Prelude.{◌≢◌, ◌≤◌, ◌<◌, ℕ, length}
 use Rattle.irv_base.specs.Tabulation.{AllElect, IsDecided, IsFirstTie}
-use Rattle.ballot_reader.specs.Ballots.{BallotFile}
+use Rattle.ballots.specs.Ballots.{BallotFile}
 use Rattle.cover_checker.specs.Outcomes.{IsWinner}
 
 abbrev pub candidate_count : BallotFile → ℕ

@@ -3,7 +3,7 @@ use Rattle.std.specs.Prelude.{◌≡◌, ◌≤◌, ◌<◌, ◌==◌, ℕ, List
 use Rattle.irv_base.specs.Tabulation.{least}
 use Rattle.budget.specs.declared.budget.Budget.TheVariants.{Sets}
 use Rattle.assertions.specs.Hardness.{first_bound, start_order}
-use Rattle.ballot_reader.specs.Ballots.{BallotFile}
+use Rattle.ballots.specs.Ballots.{BallotFile}
 use Rattle.assertion_file.specs.Content.{Content, margins_of}
 use Rattle.fewest_search.specs.Answers.{AreFewest}
 use Rattle.fewest_search.specs.Gap.{least_margin}
@@ -14,7 +14,7 @@ use Rattle.contest_search.specs.Contest.{candidate_count, IsWon, IsElected, IsTi
 use Rattle.contest_search.specs.declared.found.Found.{Found}
 use Rattle.contest_search.specs.declared.found.Found.TheVariants.{Certificate as CertificateFound, Tie, Spent, SpentSets}
 
--- the sets that are needed: for the certificate's order, or beside all true NEBs of at least the best margin
+-- the sets that are needed: for the certificate's order, or those that all true NEBs of at least the best margin let stand
 abbrev pub fewest_sets_of : BallotFile → ℕ → ℕ
 fewest_sets_of ballots winner = fewest_sets (candidate_count ballots) ballots.rankings winner
 
@@ -46,7 +46,7 @@ with_own_margin file =
     let own = least (margins_of file) in
     record file { margin = own; order = if own == file.margin then file.order else None }
 
--- a contest that isn't decided is told as by a search by sets
+-- a contest that isn't decided is reported as by a search by sets
 abbrev pub FoundFewestIn : ℕ → ℕ → BallotFile → Found → Type 0
 FoundFewestIn sets gap ballots (CertificateFound file) = IsFewestFoundIn sets gap ballots file
 FoundFewestIn sets gap ballots (Tie round tied votes) =

@@ -8,7 +8,7 @@ use Rattle.irv_tabulator.specs.declared.tabulated.Tabulated.{Tabulated}
 use Rattle.bound_search.specs.Race.{IsBest}
 use Rattle.bound_search.specs.declared.ends.RaceEnd.{RaceEnd}
 use Rattle.certifier.specs.declared.certificate.Certificate.{Certificate}
-use Rattle.ballot_reader.specs.Ballots.{BallotFile}
+use Rattle.ballots.specs.Ballots.{BallotFile}
 use Rattle.contest_search.specs.Budget.{IsInBudget, IsTold, IsSpentIn, IsSpentBySetsIn}
 use Rattle.contest_search.specs.Certificate.{IsCertificateOfDecided}
 use Rattle.contest_search.specs.Contest.{candidate_count, IsTie}

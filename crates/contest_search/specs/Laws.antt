@@ -5,8 +5,8 @@ use Rattle.budget.specs.declared.budget.Budget.TheVariants.{Sets}
 use Rattle.assertions.specs.Hardness.{first_bound}
 use Rattle.assertions.specs.Suffixes.{factorial}
 use Rattle.irv_base.specs.Names.{Id}
-use Rattle.ballot_reader.specs.Ballots.{BallotFile}
-use Rattle.ballot_reader.specs.Grammar.{ballots_of}
+use Rattle.ballots.specs.Ballots.{BallotFile}
+use Rattle.ballots.specs.Grammar.{ballots_of}
 use Rattle.assertion_file.specs.Content.{Content}
 use Rattle.assertion_file.specs.Reading.{assertion_file_of}
 use Rattle.assertion_file.specs.Text.{assertion_file_text}

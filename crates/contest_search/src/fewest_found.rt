@@ -6,7 +6,7 @@ ghost use Rattle.contest_search.specs.Fewest.{FoundFewestIn, with_own_margin};
 
 use crate::found::{Found, file_of, tie_of};
 use assertion_file::{AssertionFile, Parts};
-use ballot_reader::Votes;
+use ballots::Votes;
 use certifier::Certificate;
 use cover_checker::smallest_margin;
 use fewest_search::{FewestAssertions, FewestEnd};

@@ -11,7 +11,7 @@ ghost use Rattle.contest_search.specs.Found.{FoundIn, IsCounted, IsBestOf, IsPri
 
 use assertion_file::{AssertionFile, Parts};
 use assertions::Claim;
-use ballot_reader::Votes;
+use ballots::Votes;
 use bound_search::{RaceEnd, RaceFault, race};
 use budget::Budget;
 use certifier::{CertFault, Certificate, certify};

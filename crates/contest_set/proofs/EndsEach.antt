@@ -1,7 +1,7 @@
 -- A contest ends by itself, and in one way, but for its budget.
 use Rattle.std.proofs.Common.{◌≡◌, ◌∙◌, ℕ, zero, suc, ◌∷◌, [], List, sym, ap, subst}
 use Rattle.irv_base.proofs.Ties.{first_tie_is_one}
-use Rattle.ballot_reader.specs.Ballots.{BallotFile}
+use Rattle.ballots.specs.Ballots.{BallotFile}
 use Rattle.assertion_file.specs.Content.{Content}
 use Rattle.manifest.specs.Cards.{Batches}
 use Rattle.manifest.specs.Linked.{linked_of}

@@ -6,9 +6,9 @@ use Rattle.std.proofs.lemmas.List.{append-nil, map-append}
 use Rattle.std.proofs.lemmas.List.Elements.{filter-append}
 use Rattle.csv_rows.specs.Rows.{Fields}
 use Rattle.irv_base.specs.Names.{Id, is_among, is_same, all_differ}
-use Rattle.ballot_reader.specs.Ballots.{BallotFile}
+use Rattle.ballots.specs.Ballots.{BallotFile}
 use Rattle.ballot_reader.proofs.Adding.{same-comm, same-refl}
-use Rattle.ballot_reader.proofs.Differing.{or-false}
+use Rattle.ballot_ids.proofs.Differing.{or-false}
 use Rattle.manifest.specs.Cards.{Batches}
 use Rattle.seen_file.specs.Reading.{read_after}
 use Rattle.file_fault.specs.Refusals.{and_then}

@@ -3,8 +3,8 @@ use Rattle.std.proofs.Common.{◌≡◌, ◌∙◌, ℕ, zero, suc, ◌<◌, ◌
 use Rattle.std.proofs.Math.Seq.{get_or-append_seam}
 use Rattle.std.specs.Option.{option_or}
 use Rattle.std.specs.List.{slice_get}
-use Rattle.ballot_reader.specs.Ballots.{BallotFile}
-use Rattle.ballot_reader.proofs.Ended.{got}
+use Rattle.ballots.specs.Ballots.{BallotFile}
+use Rattle.ballot_ids.proofs.IdBytes.{got}
 use Rattle.manifest.specs.Cards.{Batches}
 use Rattle.manifest.specs.Linked.{RefusesLink, first_without_card}
 use Rattle.manifest.specs.declared.link_fault.LinkFault.{LinkFault}

@@ -3,9 +3,9 @@ use Rattle.std.proofs.Common.{◌≡◌, ◌∙◌, ℕ, zero, suc, true, false,
 use Rattle.std.specs.List.{slice_get}
 use Rattle.std.proofs.lemmas.Bool.{and_parts, not-true}
 use Rattle.irv_base.specs.Names.{Id, is_among, is_same, all_differ}
-use Rattle.ballot_reader.specs.Ballots.{BallotFile}
+use Rattle.ballots.specs.Ballots.{BallotFile}
 use Rattle.ballot_reader.proofs.Adding.{same-comm, same-refl}
-use Rattle.ballot_reader.proofs.Differing.{or-false}
+use Rattle.ballot_ids.proofs.Differing.{or-false}
 use Rattle.contest_set.specs.SeenBy.{contest_ids, ballots_for}
 
 -- a contest at a place among contests that lack an id

@@ -7,12 +7,12 @@ use Rattle.csv_rows.specs.Fields.{numbered_records}
 use Rattle.csv_rows.specs.Numbers.{number_of}
 use Rattle.csv_rows.specs.Rows.{Fields}
 use Rattle.irv_base.specs.Names.{all_differ}
-use Rattle.ballot_reader.specs.Ballots.{BallotFile}
-use Rattle.ballot_reader.specs.Grammar.{Ballot, Contest, all_audited, ballots_after, contest_count, contests_behind, contests_from, contests_in, contests_of, file_of, has_audited_size, then_on, unless_unsized}
-use Rattle.ballot_reader.specs.declared.fault.BRule.{BRule}
+use Rattle.ballots.specs.Ballots.{BallotFile}
+use Rattle.ballots.specs.Grammar.{Ballot, Contest, all_audited, ballots_after, contest_count, contests_behind, contests_from, contests_in, contests_of, file_of, has_audited_size, then_on, unless_unsized}
+use Rattle.ballots.specs.declared.fault.BRule.{BRule}
 use Rattle.file_fault.specs.Refusals.{Refusal}
 use Rattle.ballot_reader.specs.Kept.{contest_ids as ids_listed}
-use Rattle.ballot_reader.specs.declared.limits.TheConstants.{MOST_CONTESTS}
+use Rattle.ballots.specs.declared.limits.TheConstants.{MOST_CONTESTS}
 use Rattle.ballot_reader.proofs.Contests.{all_listed, none_listed}
 use Rattle.contest_set.specs.SeenBy.{contest_ids}
 

@@ -3,7 +3,7 @@ use Rattle.std.proofs.Common.{◌≡◌, ◌∙◌, ℕ, ◌∷◌, drop, List, 
 use Rattle.std.specs.List.{slice_get}
 use Rattle.csv_rows.specs.Rows.{Fields}
 use Rattle.irv_base.specs.Names.{Id}
-use Rattle.ballot_reader.specs.Ballots.{BallotFile}
+use Rattle.ballots.specs.Ballots.{BallotFile}
 use Rattle.manifest.specs.Cards.{Batches}
 use Rattle.seen_file.specs.Reading.{card_of, entry_of_card, with_card}
 use Rattle.seen_file.specs.Seen.{Entry}

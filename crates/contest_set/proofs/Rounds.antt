@@ -6,7 +6,7 @@ use Rattle.budget.specs.declared.budget.Budget.{Budget}
 use Rattle.irv_base.specs.Names.{all_differ}
 use Rattle.irv_base.specs.declared.limits.TheConstants.{GREATEST_GAMMA, MOST_CARDS}
 use Rattle.assertion_file.specs.Content.{Content, IsSoundClaim, margins_of}
-use Rattle.ballot_reader.specs.Ballots.{BallotFile}
+use Rattle.ballots.specs.Ballots.{BallotFile}
 use Rattle.manifest.proofs.FewBallots.{few_ballots}
 use Rattle.manifest.specs.Cards.{Batches, cards_of}
 use Rattle.manifest.specs.Linked.{first_without_card, linked_of, recorded_of}

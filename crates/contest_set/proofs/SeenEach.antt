@@ -4,7 +4,7 @@ use Rattle.std.specs.List.{slice_get}
 use Rattle.csv_rows.specs.Rows.{Fields}
 use Rattle.irv_base.specs.Names.{Id, is_same}
 use Rattle.irv_base.proofs.Members.{from_find}
-use Rattle.ballot_reader.specs.Ballots.{BallotFile}
+use Rattle.ballots.specs.Ballots.{BallotFile}
 use Rattle.ballot_reader.proofs.Adding.{same-comm, same-refl}
 use Rattle.manifest.proofs.Numbers.{same-equal}
 use Rattle.manifest.specs.Cards.{Batches}

@@ -2,8 +2,8 @@
 use Rattle.std.specs.Prelude.{◌≡◌, ◌≤◌, ◌*◌, ◌^◌, ℕ, Bool, true, false, List, [], ◌∷◌, filter, length, map, slice_get, Some, None, Ok, Option, IsSomeAnd, IsTrue, ⊤}
 use Rattle.csv_rows.specs.Rows.{Fields}
 use Rattle.irv_base.specs.Names.{Id, is_same, all_differ}
-use Rattle.ballot_reader.specs.Ballots.{BallotFile, IsSound as AreSound}
-use Rattle.ballot_reader.specs.Grammar.{ballots_of}
+use Rattle.ballots.specs.Ballots.{BallotFile, IsSound as AreSound}
+use Rattle.ballots.specs.Grammar.{ballots_of}
 use Rattle.assertion_file.specs.Content.{Content, candidate_count}
 use Rattle.manifest.specs.Cards.{AreBatches, Batches, cards_of}
 use Rattle.manifest.specs.Linked.{first_without_card, linked_of}

@@ -1,7 +1,7 @@
 // The audit of all contests.
 ghost use Rattle.std.specs.Prelude.{◌≡◌, ◌≤◌, ◌<◌, List, length, None, IfOk, IfErr, OnOk};
-ghost use Rattle.ballot_reader.specs.Ballots.{BallotFile};
-ghost use Rattle.ballot_reader.specs.declared.limits.TheConstants.{MOST_CONTESTS};
+ghost use Rattle.ballots.specs.Ballots.{BallotFile};
+ghost use Rattle.ballots.specs.declared.limits.TheConstants.{MOST_CONTESTS};
 ghost use Rattle.manifest.specs.Cards.{Batches};
 ghost use Rattle.seen_file.specs.Seen.{Entry};
 ghost use Rattle.contest_set.specs.Ends.{AreEnds, AreWithinLimits};
@@ -12,7 +12,7 @@ use crate::end::ContestEnd;
 use crate::fault::SetFault;
 use crate::one::audit_one;
 use crate::terms::SharedTerms;
-use ballot_reader::Ballots;
+use ballots::Ballots;
 use desk::Gate;
 use irv_base::Memory;
 use manifest::{Manifest, link};

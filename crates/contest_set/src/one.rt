@@ -13,7 +13,7 @@ use crate::gate::Numbered;
 use crate::terms::SharedTerms;
 use assertion_file::AssertionFile;
 use audit_session::{AdvanceFault, first_round};
-use ballot_reader::Ballots;
+use ballots::Ballots;
 use budget::Budget;
 use contest_search::{Found, find};
 use desk::Gate;

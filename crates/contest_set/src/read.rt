@@ -6,7 +6,7 @@ ghost use Rattle.seen_file.specs.Seen.{Entry, seen_in};
 ghost use Rattle.contest_set.specs.SeenBy.{contest_ids, seen_by};
 
 use crate::record::{Told, told_of};
-use ballot_reader::Ballots;
+use ballots::Ballots;
 use csv::ByteRecord;
 use csv_rows::{Rows, without_mark};
 use irv_base::Memory;

@@ -3,12 +3,12 @@ ghost use Rattle.std.specs.Prelude.{◌≡◌, ◌<◌, ◌≤◌, List, slice_g
 ghost use Rattle.csv.specs.Records.{fields_of};
 ghost use Rattle.csv_rows.specs.Fields.{trimmed_fields};
 ghost use Rattle.irv_base.specs.Names.{is_same};
-ghost use Rattle.ballot_reader.specs.Ballots.{BallotFile};
+ghost use Rattle.ballots.specs.Ballots.{BallotFile};
 ghost use Rattle.seen_file.specs.Seen.{seen_in};
 ghost use Rattle.contest_set.specs.SeenBy.{ContestEntry, contest_entry_of, seen_for_each};
 
 use assorters::Seen;
-use ballot_reader::Ballots;
+use ballots::Ballots;
 use csv::ByteRecord;
 use csv_rows::Fields;
 use manifest::Manifest;

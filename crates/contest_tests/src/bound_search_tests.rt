@@ -21,7 +21,7 @@ use suffix_tree::{Tail, score};
 // Turns for which a worker is held: enough for another to begin on a machine that is busy.
 const PATIENCE: u32 = 4_000_000_000;
 
-/// Counts how often it is called, and holds piece 0 up until another was taken, for so many turns.
+/// Counts how often it is called, and holds piece 0 up until another was taken, for at most this many turns.
 #[derive(Drop)]
 struct Held {
     until: u32,

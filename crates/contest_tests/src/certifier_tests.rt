@@ -14,7 +14,7 @@ use irv_base::{CandSet, MOST_WORKERS, Ranking};
 use irv_tabulator::tabulate;
 use std::thread::Threads;
 
-// The certificate, where the best margin is that of whoever is elected.
+// The certificate, for any candidate who is elected.
 fn answer<R: AllocGlobal + Threads + Sync>(
     rt: &R,
     n: u32,

@@ -57,7 +57,7 @@ fn three_candidates_are_spent(rt: HostRuntime) {
     assert!(rt; matches!(&found, Ok(Found::Spent { .. })));
 }
 
-// The sets of the order 2,1,3 are those of its suffixes and that of candidate 1 alone. One fewer is told with the order that a search
+// The sets of the order 2,1,3 are those of its suffixes and that of candidate 1 alone. With one fewer the answer has the order that a search
 // starts with, and its hardness.
 #[test]
 fn three_candidates_by_sets(rt: HostRuntime) {

@@ -33,7 +33,7 @@ pub fn both(first: Candidate, second: Candidate) -> Ranking
     Ranking::of(&[first, second])
 }
 
-/// The records with these rankings, of a contest with `n` candidates, counted by at most so many workers.
+/// The records with these rankings, of a contest with `n` candidates, counted by at most this many workers.
 pub fn counted_of<R: AllocGlobal + Threads + Sync>(
     rt: &R,
     n: u32,

@@ -25,7 +25,7 @@ fn elects_the_second(rt: HostRuntime) {
     }
 }
 
-// Whether the round has these tallies, and so many exhausted ballots.
+// Whether the round has these tallies, and this many exhausted ballots.
 fn says(round: &Round, tallies: [u32; 4], exhausted: u32) -> bool {
     round.tallies.as_slice() == tallies.as_slice() && round.exhausted == exhausted
 }
@@ -49,7 +49,7 @@ fn county_contest(rt: HostRuntime) {
     }
 }
 
-// The tabulation of so many candidates.
+// The tabulation of this many candidates.
 fn tabulated<R: AllocGlobal + Threads + Sync>(
     rt: &R,
     n: u32,
@@ -68,7 +68,7 @@ fn tabulated<R: AllocGlobal + Threads + Sync>(
     }
 }
 
-// Whether the first tie is that of this round, from 1, with so many votes for each of these candidates.
+// Whether the first tie is in this round, from 1, with this many votes for each of these candidates.
 fn ties_in(tabulated: &Tabulated, at: u32, who: CandSet, votes: u32) -> bool {
     match tabulated.tie() {
         Some(FirstTie { round, tied, tally }) => round == at && tied == who && tally == votes,

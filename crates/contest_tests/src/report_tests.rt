@@ -4,7 +4,8 @@ ghost use Rattle.irv_tabulator.specs.Results.{IsTabulation};
 
 use crate::contests::{ONE, TWO, ZERO};
 use assertions::Assertion;
-use ballot_reader::{Votes, read_ballots};
+use ballot_reader::read_ballots;
+use ballots::Votes;
 use irv_base::{CandSet, Name, Order};
 use irv_tabulator::{TabFault, Tabulated, tabulate};
 use km_risk::Counts;

@@ -15,7 +15,7 @@ const FEW: u32 = 5;
 // So many candidates have no sums where there are ten ballots, so that rows are counted.
 const MANY: u32 = 17;
 
-// The rows are looked at of the sets of so many candidates.
+// The rows of the sets of this many candidates are looked at.
 const LOOKED_AT: u32 = 13;
 
 // Ten ballots so often are one share for one worker, two even ones for two, and for more of them two full ones and part of a third.

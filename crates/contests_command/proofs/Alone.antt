@@ -7,17 +7,17 @@ use Rattle.std.proofs.lemmas.List.{map-append}
 use Rattle.csv_rows.specs.Rows.{Fields}
 use Rattle.irv_base.specs.Names.{Id, all_differ, is_among, is_name, is_same}
 use Rattle.irv_base.specs.declared.limits.TheConstants.{MOST_RECORDS}
-use Rattle.ballot_reader.specs.Ballots.{BallotFile}
-use Rattle.ballot_reader.specs.Grammar.{Ballot, Contest, contest_count, contests_behind, contests_from, has_audited_size, then_on, unless_unsized, ballot_for, ballot_ids, ballot_in, ballot_of, ballot_with, ballots_after, ballots_in, contest_named, contest_of, contest_with, contest_with_id, contests_in, file_of, has_id, listed, names_of, number_up_to, ranking_of}
+use Rattle.ballots.specs.Ballots.{BallotFile}
+use Rattle.ballots.specs.Grammar.{Ballot, Contest, contest_count, contests_behind, contests_from, has_audited_size, then_on, unless_unsized, ballot_for, ballot_ids, ballot_in, ballot_of, ballot_with, ballots_after, ballots_in, contest_named, contest_of, contest_with, contest_with_id, contests_in, file_of, has_id, listed, names_of, number_up_to, ranking_of}
 use Rattle.file_fault.specs.Refusals.{and_then, Refusal}
-use Rattle.ballot_reader.specs.declared.fault.BRule.{BRule}
-use Rattle.ballot_reader.specs.declared.fault.BRule.TheVariants.{B2, B4, B7, B9, B10}
-use Rattle.ballot_reader.specs.declared.limits.TheConstants.{MOST_LISTED}
+use Rattle.ballots.specs.declared.fault.BRule.{BRule}
+use Rattle.ballots.specs.declared.fault.BRule.TheVariants.{B2, B4, B7, B9, B10}
+use Rattle.ballots.specs.declared.limits.TheConstants.{MOST_LISTED}
 use Rattle.ballot_reader.specs.Kept.{contest_ids as ids_of_contests}
 use Rattle.ballot_reader.proofs.Adding.{apart, elsewhere as not-there, ids-other, ids-own, pushed-other, pushed-own, same-comm, same-refl}
 use Rattle.ballot_reader.proofs.Behind.{after_all, after_listed, listed as after-contests}
 use Rattle.ballot_reader.proofs.Contests.{AreListed, all_listed, none_listed}
-use Rattle.ballot_reader.proofs.Differing.{or-false}
+use Rattle.ballot_ids.proofs.Differing.{or-false}
 use Rattle.manifest.proofs.Numbers.{same-equal}
 use Rattle.contests_command.specs.Alone.{SaidAlone, alone, alone_behind, is_ballot_of, lists}
 

@@ -1,7 +1,7 @@
 -- What an audit of all contests comes to.
 use Rattle.std.proofs.Common.{◌≡◌, inl, inr, ℕ, Bool, true, false, List, Result, Ok, Err, codes, refl, sym, ap, subst, ◌∙◌}
-use Rattle.ballot_reader.specs.Ballots.{BallotFile}
-use Rattle.ballot_reader.specs.Grammar.{contests_of}
+use Rattle.ballots.specs.Ballots.{BallotFile}
+use Rattle.ballots.specs.Grammar.{contests_of}
 use Rattle.manifest.specs.Cards.{Batches}
 use Rattle.manifest.specs.Manifest.{manifest_of}
 use Rattle.seen_file.specs.Seen.{Entry}

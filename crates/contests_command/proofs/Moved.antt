@@ -1,7 +1,7 @@
 -- Where the ballots of a contest stand in a file doesn't matter to its end.
 use Rattle.std.proofs.Common.{◌≡◌, ◌⊎◌, inl, inr, ℕ, List}
 use Rattle.budget.specs.declared.budget.Budget.TheVariants.{Nodes}
-use Rattle.ballot_reader.specs.Ballots.{BallotFile}
+use Rattle.ballots.specs.Ballots.{BallotFile}
 use Rattle.assertion_file.specs.Content.{Content}
 use Rattle.manifest.specs.Cards.{Batches}
 use Rattle.seen_file.specs.Seen.{Entry}

@@ -1,9 +1,9 @@
 -- `contests BALLOTS MANIFEST SEEN`: all contests of a ballot file, audited on one sample of cards.
 use Rattle.std.specs.Prelude.{◌≡◌, ◌⊎◌, ◌≤◌, ℕ, List, [], ◌∷◌, length, None, Some, IsTrue, ⊤}
 use Rattle.irv_base.specs.Names.{all_differ}
-use Rattle.ballot_reader.specs.Ballots.{BallotFile}
-use Rattle.ballot_reader.specs.Grammar.{contests_of}
-use Rattle.ballot_reader.specs.declared.limits.TheConstants.{MOST_CONTESTS}
+use Rattle.ballots.specs.Ballots.{BallotFile}
+use Rattle.ballots.specs.Grammar.{contests_of}
+use Rattle.ballots.specs.declared.limits.TheConstants.{MOST_CONTESTS}
 use Rattle.manifest.specs.Cards.{Batches}
 use Rattle.manifest.specs.Manifest.{manifest_of}
 use Rattle.seen_file.specs.Seen.{Entry}

@@ -1,6 +1,6 @@
 -- The contests of the worked examples.
 use Rattle.std.specs.Prelude.{ℕ, List, [], ◌∷◌, codes}
-use Rattle.ballot_reader.specs.Ballots.{BallotFile}
+use Rattle.ballots.specs.Ballots.{BallotFile}
 use Rattle.irv_base.specs.Names.{Id}
 
 -- a contest with this id, whose ballots don't matter to what is printed

@@ -1,6 +1,6 @@
 -- The end of an audit of all contests if no budget is spent.
 use Rattle.std.specs.Prelude.{◌≡◌, List, All}
-use Rattle.ballot_reader.specs.Ballots.{BallotFile}
+use Rattle.ballots.specs.Ballots.{BallotFile}
 use Rattle.manifest.specs.Cards.{Batches}
 use Rattle.seen_file.specs.Seen.{Entry}
 use Rattle.cli_base.specs.Outcome.{Verdict}

@@ -5,7 +5,7 @@ use Rattle.std.specs.List.{list_all}
 use Rattle.irv_base.specs.Names.{Id}
 use Rattle.irv_base.specs.Orders.{is_order}
 use Rattle.assertions.specs.declared.assertion.Claim.{Claim}
-use Rattle.ballot_reader.specs.Ballots.{BallotFile}
+use Rattle.ballots.specs.Ballots.{BallotFile}
 use Rattle.assertion_file.specs.Content.{Content}
 use Rattle.assertion_file.specs.Ids.{id_of}
 use Rattle.km_risk.specs.declared.draws.Counts.{Counts}
@@ -81,7 +81,7 @@ last_line all = codes "all " ++ yes_or_no all ++ codes "\n"
 abbrev pub contests_table : ℕ → List BallotFile → List ContestEnd → List ℕ
 contests_table limit list ends = blocks limit list ends ++ last_line (all_signed ends)
 
--- ---- what can be told
+-- ---- what can be printed
 
 -- it is of the contest's candidates, or has counts and a risk for each claim
 abbrev pub CanBeTold : BallotFile → ContestEnd → Type 0

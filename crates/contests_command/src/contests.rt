@@ -18,7 +18,7 @@ ghost use Rattle.contests_command.specs.Contests.{AreContests, Audits, after_bal
 ghost use Rattle.contests_command.specs.Table.{CanBeTold, all_signed, contests_table};
 
 use crate::table::{all_signed, contests_table};
-use ballot_reader::Ballots;
+use ballots::Ballots;
 use cli_base::{Answer, Refusal, confirmed_kind, refuse_at};
 use command::{ContestsTask, FileName};
 use contest_set::{ContestEnd, SetFault, SharedTerms, audit_all, read_seen_by};
@@ -161,7 +161,7 @@ fn audit<R: AllocGlobal + Threads + Sync, G: Gate + Sync>(
     }
 }
 
-// The answer that tells how each contest ends.
+// The answer that says how each contest ends.
 fn told(
     alloc: Global,
     task: &ContestsTask,

@@ -10,7 +10,7 @@ ghost use Rattle.contests_command.specs.Table.{CanBeTold, all_signed, audited_li
 
 use assertion_file::{AssertionFile, id_of};
 use assertions::Claim;
-use ballot_reader::Ballots;
+use ballots::Ballots;
 use contest_set::ContestEnd;
 use irv_base::{Memory, Name};
 use km_risk::{Counts, is_confirmed};

@@ -1,7 +1,7 @@
 -- What is found of a file, as the answer.
 use Rattle.std.proofs.Common.{◌≡◌, ℕ, true, length, Ok, Err, IfOk, IfErr, MatchBool, sym, subst}
 use Rattle.budget.specs.declared.budget.Budget.{Budget}
-use Rattle.ballot_reader.specs.Ballots.{BallotFile}
+use Rattle.ballots.specs.Ballots.{BallotFile}
 use Rattle.assertion_file.specs.Content.{Content}
 use Rattle.cover_checker.specs.Outcomes.{IsWinner}
 use Rattle.cover_checker.specs.Findings.{Answer, is_about, IsErrOf, IsWant}

@@ -13,7 +13,7 @@ use Rattle.assertions.proofs.Endings.{from_alternative, alternative-member}
 use Rattle.assertions.proofs.Lows.{low-refuter}
 use Rattle.assertions.proofs.Sums.{true_margin_is}
 use Rattle.budget.specs.declared.budget.Budget.{Budget}
-use Rattle.ballot_reader.specs.Ballots.{BallotFile}
+use Rattle.ballots.specs.Ballots.{BallotFile}
 use Rattle.assertion_file.specs.Content.{Content, IsSound, IsSoundClaim, candidate_count}
 use Rattle.cover_checker.specs.Checks.{IsAnswer}
 use Rattle.cover_checker.specs.Holds.{Holds, IsHardest}

@@ -26,7 +26,7 @@ use Rattle.set_walk.specs.Walks.{standing, passes}
 use Rattle.set_walk.proofs.Counted.{counted_stand}
 use Rattle.set_walk.proofs.Orders.{standing_by_sets}
 use Rattle.set_walk.proofs.Standing.{certificate_stands}
-use Rattle.ballot_reader.specs.Ballots.{BallotFile}
+use Rattle.ballots.specs.Ballots.{BallotFile}
 use Rattle.assertion_file.specs.Content.{Content, IsSound, candidate_count}
 use Rattle.cover_checker.specs.Covers.{stands, covered_is, standing_order, standing_count, standing_sets, IsEnough, IsEnoughBelow}
 use Rattle.cover_checker.specs.Findings.{assertions_of}

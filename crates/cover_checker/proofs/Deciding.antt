@@ -10,7 +10,7 @@ use Rattle.assertions.specs.Assertions.{is_proper, is_true, margin}
 use Rattle.assertions.proofs.Decided.{proof-decided}
 use Rattle.assertions.proofs.Sums.{true_margin_is}
 use Rattle.budget.specs.declared.budget.Budget.{Budget}
-use Rattle.ballot_reader.specs.Ballots.{BallotFile}
+use Rattle.ballots.specs.Ballots.{BallotFile}
 use Rattle.assertion_file.specs.Content.{Content, IsSound, IsSoundClaim, candidate_count}
 use Rattle.cover_checker.specs.Checks.{IsAnswer}
 use Rattle.cover_checker.specs.Findings.{assertions_of}

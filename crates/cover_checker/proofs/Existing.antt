@@ -11,7 +11,7 @@ use Rattle.assertions.specs.declared.assertion.Claim.{Claim}
 use Rattle.assertions.specs.Assertions.{margin}
 use Rattle.assertions.specs.Hardness.{low, refuter}
 use Rattle.budget.specs.declared.budget.Budget.{Budget}
-use Rattle.ballot_reader.specs.Ballots.{BallotFile}
+use Rattle.ballots.specs.Ballots.{BallotFile}
 use Rattle.assertion_file.specs.Content.{Content, Plan, IsSound, candidate_count}
 use Rattle.cover_checker.specs.Covers.{IsEnough, verdict_on, standing_order}
 use Rattle.cover_checker.specs.Findings.{Answer, is_about, assertions_of, has_other_margin, other_margin_from, unless_covered, uncovered, smallest_margin, elects, other_winner, other_margin, other_smallest, elected, elected_by, harder, harder_than, refuted_by, are_same_draws, other_draws_from, other_draws}

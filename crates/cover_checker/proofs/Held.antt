@@ -18,7 +18,7 @@ use Rattle.assertions.proofs.Alternatives.{some_alternative}
 use Rattle.assertions.proofs.Elections.{from_covers}
 use Rattle.assertions.proofs.Endings.{from_alternative, alternative-member}
 use Rattle.budget.specs.declared.budget.Budget.{Budget}
-use Rattle.ballot_reader.specs.Ballots.{BallotFile}
+use Rattle.ballots.specs.Ballots.{BallotFile}
 use Rattle.assertion_file.specs.Content.{Content, IsSound, candidate_count}
 use Rattle.cover_checker.specs.Covers.{covered_is}
 use Rattle.cover_checker.specs.Outcomes.{IsWinner}

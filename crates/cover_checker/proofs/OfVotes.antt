@@ -2,7 +2,7 @@
 use Rattle.std.proofs.Common.{◌≡◌, Bool, true, false, Ok}
 use Rattle.std.specs.Bool.{MatchBool}
 use Rattle.budget.specs.declared.budget.Budget.{Budget}
-use Rattle.ballot_reader.specs.Ballots.{BallotFile, votes_of}
+use Rattle.ballots.specs.Ballots.{BallotFile, votes_of}
 use Rattle.assertion_file.specs.Content.{Content}
 use Rattle.cover_checker.specs.Checks.{IsAnswer, Judges}
 use Rattle.cover_checker.specs.Findings.{Answer, is_about}

@@ -6,7 +6,7 @@ use Rattle.assertions.specs.Certificate.{certificate_claims, certificate_order}
 use Rattle.assertions.specs.Hardness.{low, best_margin}
 use Rattle.assertions.specs.Refutation.{refutes}
 use Rattle.assertions.specs.Suffixes.{IsAlternative}
-use Rattle.ballot_reader.specs.Ballots.{BallotFile}
+use Rattle.ballots.specs.Ballots.{BallotFile}
 use Rattle.assertion_file.specs.Content.{Content, candidate_count}
 use Rattle.cover_checker.specs.Draws.{HasCleanDraws}
 use Rattle.cover_checker.specs.Outcomes.{IsWinner}

@@ -10,7 +10,7 @@ use Rattle.assertions.specs.Assertions.{is_proper, is_true}
 use Rattle.assertions.specs.Suffixes.{IsAlternative, comes_before, factorial}
 use Rattle.assertions.specs.Refutation.{covers}
 use Rattle.assertions.specs.Hardness.{low, best_margin}
-use Rattle.ballot_reader.specs.Ballots.{BallotFile}
+use Rattle.ballots.specs.Ballots.{BallotFile}
 use Rattle.assertion_file.specs.Content.{Content, IsSound, candidate_count}
 use Rattle.cover_checker.specs.Covers.{stands, covered_is, IsEnough, IsEnoughFor, IsEnoughBelow}
 use Rattle.cover_checker.specs.Findings.{Answer, assertions_of}

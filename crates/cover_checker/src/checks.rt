@@ -11,7 +11,7 @@ use crate::findings::{
     elected, harder, is_about, other_draws, other_margin, other_smallest, other_winner, uncovered,
 };
 use assertion_file::AssertionFile;
-use ballot_reader::Votes;
+use ballots::Votes;
 use budget::Budget;
 use irv_base::Candidate;
 use irv_tabulator::{TabFault, tabulate};

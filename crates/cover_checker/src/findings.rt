@@ -14,7 +14,7 @@ use crate::checked::{CheckFault, Checked};
 use crate::cover::{Verdict, covered};
 use assertion_file::{AssertionFile, PlanFacts};
 use assertions::{Assertion, Claim, margin};
-use ballot_reader::Votes;
+use ballots::Votes;
 use budget::Budget;
 use irv_base::{Candidate, Memory, Order};
 use km_risk::clean_draws;

@@ -37,7 +37,7 @@ NensAreNeeded =
     AreFewest n records winner sets margin claims → claims ≡ before ++ claim ∷ later →
     IsTrue (is_nen claim.assertion) → IsOpen n winner (assertions_in (before ++ later))
 
--- it is the smallest number of votes, at least one, that isn't less than the best margin by more than so many thousandths of it
+-- it is the smallest number of votes, at least one, that isn't less than the best margin by more than this many thousandths of it
 abbrev pub GapIsRoundedUp : Type 0
 GapIsRoundedUp =
     (gap best votes : ℕ) →

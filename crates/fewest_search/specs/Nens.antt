@@ -1,4 +1,4 @@
--- The fewest NENs beside all NEBs of a margin.
+-- The fewest NENs that complete all NEBs of a margin.
 use Rattle.std.specs.Prelude.{◌≡◌, ◌++◌, ℕ, List, map, All}
 use Rattle.assertions.specs.Certificate.{claim_of}
 use Rattle.fewest.specs.Apart.{HasFewest}

@@ -46,7 +46,7 @@ fn claims_of(
     in_fixed_order(alloc, left.as_slice())
 }
 
-// The fewest NENs of at least the margin `least`, if no more than `sets` sets stand beside the NEBs of at least the best margin.
+// The fewest NENs of at least the margin `least`, if the NEBs of at least the best margin let no more than `sets` sets stand.
 fn nens_of(
     alloc: Global,
     counted: &Counted,

@@ -110,7 +110,7 @@ fn reached_with(
     }
 }
 
-/// The claims that are left behind this many first ones, which stay, once each of the others that can go is dropped, from the last to the
+/// The claims that are left after this many first ones, which stay, once each of the others that can go is dropped, from the last to the
 /// first. All claims cover.
 ///
 /// A claim can go if those that are left without it cover, and no more sets count than the budget has.

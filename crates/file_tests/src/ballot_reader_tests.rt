@@ -4,7 +4,8 @@ mod pieces;
 mod rankings;
 mod side_by_side;
 
-use ballot_reader::{BRule, BallotFault, read_ballots};
+use ballot_reader::read_ballots;
+use ballots::{BRule, BallotFault};
 use file_fault::Rule;
 use irv_base::{Candidate, Name};
 

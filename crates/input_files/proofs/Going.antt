@@ -17,8 +17,8 @@ use Rattle.cli_base.proofs.Begun.{EndsNow, begun_on, come_now, memory_now, stopp
 use Rattle.cli_base.proofs.Statuses.{status_in}
 use Rattle.cli_base.proofs.Steps.{accounted_as, gone_on}
 use Rattle.irv_base.specs.Names.{Id}
-use Rattle.ballot_reader.specs.Ballots.{BallotFile}
-use Rattle.ballot_reader.specs.Grammar.{ballots_of}
+use Rattle.ballots.specs.Ballots.{BallotFile}
+use Rattle.ballots.specs.Grammar.{ballots_of}
 use Rattle.manifest.specs.Cards.{Batches}
 use Rattle.manifest.specs.Manifest.{manifest_of}
 use Rattle.manifest.specs.Linked.{first_without_card}

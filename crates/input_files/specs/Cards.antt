@@ -1,6 +1,6 @@
 -- The cards of ballots.
 use Rattle.std.specs.Prelude.{ℕ, List, Option, option_map, Result, Ok}
-use Rattle.ballot_reader.specs.Ballots.{BallotFile}
+use Rattle.ballots.specs.Ballots.{BallotFile}
 use Rattle.manifest.specs.Cards.{Batches}
 use Rattle.manifest.specs.Manifest.{manifest_of}
 use Rattle.manifest.specs.Linked.{first_without_card}

@@ -4,8 +4,8 @@ use Rattle.std.specs.Fmt.{decimal}
 use Rattle.file_fault.specs.Refusals.{Refusal}
 use Rattle.file_fault.specs.declared.fault.Fault.{Fault}
 use Rattle.file_fault.specs.declared.fault.Fault.TheVariants.{Refused as Breaks, Memory}
-use Rattle.ballot_reader.specs.Faults.{rule_name as ballot_rule}
-use Rattle.ballot_reader.specs.declared.fault.BRule.{BRule}
+use Rattle.ballots.specs.Faults.{rule_name as ballot_rule}
+use Rattle.ballots.specs.declared.fault.BRule.{BRule}
 use Rattle.manifest.specs.Faults.{rule_name as manifest_rule}
 use Rattle.manifest.specs.declared.fault.MRule.{MRule}
 use Rattle.assertion_file.specs.Faults.{rule_name as assertion_rule}

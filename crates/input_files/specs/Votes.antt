@@ -1,8 +1,8 @@
 -- The votes in a ballot file, which is read piece by piece.
 use Rattle.std.specs.Prelude.{◌≡◌, ◌⊎◌, ℕ, List, Option, Result, Ok, Err}
 use Rattle.irv_base.specs.Names.{Id}
-use Rattle.ballot_reader.specs.Ballots.{BallotFile, votes_of}
-use Rattle.ballot_reader.specs.Grammar.{ballots_of}
+use Rattle.ballots.specs.Ballots.{BallotFile, votes_of}
+use Rattle.ballots.specs.Grammar.{ballots_of}
 use Rattle.cli_base.specs.Due.{StopsAt}
 use Rattle.cli_base.specs.Outcome.{Verdict}
 use Rattle.cli_base.specs.Script.{Bytes, Readings}

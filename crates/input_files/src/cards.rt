@@ -6,7 +6,7 @@ ghost use Rattle.input_files.specs.Cards.{cards_for, without_card};
 ghost use Rattle.input_files.specs.Judged.{IsStopped, IsTold};
 
 use crate::files::manifest_in;
-use ballot_reader::Ballots;
+use ballots::Ballots;
 use cli_base::{Refusal, refuse_at};
 use command::FileName;
 use manifest::{LinkFault, Linked, Manifest, link};

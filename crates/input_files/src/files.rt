@@ -3,7 +3,7 @@ ghost use Rattle.std.specs.Prelude.{◌≡◌, ◌≤◌, Ok, IfOk, IfErr, lengt
 ghost use Rattle.desk.specs.Count.{one_more, Rose};
 ghost use Rattle.irv_base.specs.declared.limits.TheConstants.{ROOM};
 ghost use Rattle.assertion_file.specs.Reading.{assertion_file_of};
-ghost use Rattle.ballot_reader.specs.Grammar.{ballots_of, contests_of};
+ghost use Rattle.ballots.specs.Grammar.{ballots_of, contests_of};
 ghost use Rattle.claims_file.specs.Claimed.{AreSound};
 ghost use Rattle.claims_file.specs.Reading.{claims_of};
 ghost use Rattle.manifest.specs.Manifest.{manifest_of};
@@ -17,7 +17,8 @@ ghost use Rattle.input_files.specs.Refusals.{refused_assertions, refused_ballots
 
 use crate::judged::refuse_file;
 use assertion_file::{AssertionFile, read_file};
-use ballot_reader::{Ballots, read_ballots, read_contests};
+use ballot_reader::{read_ballots, read_contests};
+use ballots::Ballots;
 use claims_file::{Claims, read_claims};
 use cli_base::{Refusal, read_file as read_whole};
 use command::FileName;

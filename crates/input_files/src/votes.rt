@@ -11,7 +11,8 @@ ghost use Rattle.ballot_reader.specs.Stages.{HasTaken};
 ghost use Rattle.input_files.specs.declared.votes.TheConstants.{MOST_READERS};
 
 use crate::judged::refuse_file;
-use ballot_reader::{Votes, VotesReader};
+use ballot_reader::VotesReader;
+use ballots::Votes;
 use cli_base::{Refusal, read_file_into};
 use command::FileName;
 use desk::{Desk, Taker};

@@ -8,8 +8,8 @@ use Rattle.std.proofs.lemmas.List.{get_or-append-add, get_or-set_other, get_or-s
 use Rattle.std.proofs.lemmas.List.Quantifiers.{position-Some}
 use Rattle.irv_base.specs.Names.{Id, is_among, is_name, is_same}
 use Rattle.irv_base.proofs.Positions.{first_place, later_place, none_first, some_first, some_position}
-use Rattle.ballot_reader.proofs.IdBytes.{read_at}
-use Rattle.ballot_reader.proofs.Differing.{among-set, or-false, same-comm}
+use Rattle.ballot_ids.proofs.IdBytes.{read_at}
+use Rattle.ballot_ids.proofs.Differing.{among-set, or-false, same-comm}
 use Rattle.manifest.specs.BatchIds.{IsPlaced, IsTable, index_by, place_in}
 
 -- ---- the id at a place

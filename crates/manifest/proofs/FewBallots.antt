@@ -6,7 +6,7 @@ use Rattle.std.proofs.lemmas.List.{length-map}
 use Rattle.irv_base.specs.Names.{Id, is_same, is_among, all_differ}
 use Rattle.irv_base.proofs.Distinct.{Distinct, none, more, distinct-le}
 use Rattle.irv_base.proofs.Members.{Member, member-map, from_list_any, list_any-member}
-use Rattle.ballot_reader.specs.Ballots.{BallotFile}
+use Rattle.ballots.specs.Ballots.{BallotFile}
 use Rattle.manifest.specs.Cards.{Batches, cards_of, card_id}
 use Rattle.manifest.specs.Linked.{has_card, first_without_card}
 use Rattle.manifest.proofs.Linking.{none_any, same-refl}

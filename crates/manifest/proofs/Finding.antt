@@ -6,7 +6,7 @@ use Rattle.std.proofs.lemmas.Bool.{and_parts, cases_Bool, not-true}
 use Rattle.std.proofs.lemmas.Cmp.{nat_list_eq_equiv}
 use Rattle.std.proofs.lemmas.List.FromFn.{length-map-range_with_len}
 use Rattle.irv_base.specs.Names.{Id, is_same, is_among, all_differ}
-use Rattle.ballot_reader.proofs.Differing.{or-false}
+use Rattle.ballot_ids.proofs.Differing.{or-false}
 use Rattle.irv_base.proofs.Positions.{first_place, later_place, none_first, some_first}
 use Rattle.manifest.specs.Cards.{is_batch_id, is_count, cards_in, cards_of_batch}
 use Rattle.manifest.specs.declared.card.Card.{Card}

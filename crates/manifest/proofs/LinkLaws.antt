@@ -5,7 +5,7 @@ use Rattle.std.specs.List.{slice_get}
 use Rattle.std.proofs.lemmas.List.{length-take-le}
 use Rattle.std.proofs.lemmas.Option.{get_or_from_slice_get, slice_get-map, slice_get_within}
 use Rattle.irv_base.specs.Names.{Id, is_same, all_differ}
-use Rattle.ballot_reader.proofs.Differing.{among-set, differ-split}
+use Rattle.ballot_ids.proofs.Differing.{among-set, differ-split}
 use Rattle.manifest.specs.Cards.{card_id, cards_of}
 use Rattle.manifest.specs.Laws.{BallotsAreLinked, LinksDiffer}
 use Rattle.manifest.specs.Linked.{ranked_by, recorded_of}

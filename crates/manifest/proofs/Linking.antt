@@ -8,8 +8,8 @@ use Rattle.std.proofs.lemmas.List.Elements.{All-nil, All-cons}
 use Rattle.std.proofs.lemmas.List.Folds.{list_any_at}
 use Rattle.std.proofs.lemmas.List.Quantifiers.{position-Some}
 use Rattle.irv_base.specs.Names.{Id, is_same, is_among, all_differ}
-use Rattle.ballot_reader.specs.Ballots.{BallotFile}
-use Rattle.ballot_reader.proofs.Differing.{among-set, differ-split, or-false}
+use Rattle.ballots.specs.Ballots.{BallotFile}
+use Rattle.ballot_ids.proofs.Differing.{among-set, differ-split, or-false}
 use Rattle.manifest.specs.BallotNumbers.{ballot_number, ballot_numbers, from_one, recorded_at}
 use Rattle.manifest.specs.Cards.{AreBatches, Batches, card_id, cards_of, place_of}
 use Rattle.manifest.specs.Linked.{first_without_card, has_card, ranked_by, recorded_of}

@@ -5,7 +5,7 @@ use Rattle.std.specs.List.{slice_get}
 use Rattle.std.proofs.lemmas.List.{length-map}
 use Rattle.std.proofs.lemmas.Option.{slice_get-get_or, slice_get-map}
 use Rattle.irv_base.specs.Names.{Id}
-use Rattle.ballot_reader.specs.Ballots.{BallotFile}
+use Rattle.ballots.specs.Ballots.{BallotFile}
 use Rattle.manifest.specs.BallotNumbers.{AreNumbers, ballot_number, ballot_numbers, recorded_at}
 use Rattle.manifest.specs.Cards.{Batches, cards_of}
 use Rattle.irv_base.specs.declared.limits.TheConstants.{MOST_CARDS}

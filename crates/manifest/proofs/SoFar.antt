@@ -6,7 +6,7 @@ use Rattle.std.proofs.lemmas.Bool.{and_parts, and_from}
 use Rattle.std.proofs.lemmas.List.Folds.{list_all-append}
 use Rattle.std.proofs.lemmas.List.Sums.{sum_by_push}
 use Rattle.irv_base.specs.Names.{Id, is_among}
-use Rattle.ballot_reader.proofs.Differing.{differ-push}
+use Rattle.ballot_ids.proofs.Differing.{differ-push}
 use Rattle.csv_rows.specs.Rows.{Fields}
 use Rattle.manifest.proofs.CardAt.{sum-cons}
 use Rattle.manifest.specs.Cards.{AreBatches, is_batch_id, is_count}

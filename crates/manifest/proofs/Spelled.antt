@@ -8,8 +8,8 @@ use Rattle.std.proofs.lemmas.List.{length-map, map-append}
 use Rattle.std.proofs.lemmas.List.Folds.{list_all-append}
 use Rattle.std.proofs.lemmas.List.Sums.{sum_by-append}
 use Rattle.std.proofs.lemmas.Option.{get_or_from_slice_get, slice_get-map}
-use Rattle.ballot_reader.proofs.Differing.{differ-split}
-use Rattle.ballot_reader.proofs.Ended.{got}
+use Rattle.ballot_ids.proofs.Differing.{differ-split}
+use Rattle.ballot_ids.proofs.IdBytes.{got}
 use Rattle.csv_rows.specs.Broken.{IsFirstBroken}
 use Rattle.csv_rows.specs.Numbers.{number_of}
 use Rattle.csv_rows.specs.Rows.{Fields}

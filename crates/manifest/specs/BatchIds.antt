@@ -1,7 +1,7 @@
 -- How the ids of batches are found: by a table of places, or among those that came later to their place.
 use Rattle.std.specs.Prelude.{◌≡◌, ◌≤◌, ◌-◌, ◌%◌, ◌==◌, ℕ, List, [], length, position, slice_index_or, if◌then◌else◌, Option, Some, None, IsTrue}
 use Rattle.irv_base.specs.Names.{Id, is_name, is_same}
-use Rattle.ballot_reader.specs.Ids.{digest}
+use Rattle.ballot_ids.specs.Ids.{digest}
 
 -- the place of an id in a table with this many places
 abbrev pub place_in : ℕ → Id → ℕ

@@ -2,7 +2,7 @@
 use Rattle.std.specs.Prelude.{◌≡◌, ℕ, ◌+◌, List, Some, IsTrue}
 use Rattle.std.specs.List.{slice_get}
 use Rattle.irv_base.specs.Names.{Id, all_differ}
-use Rattle.ballot_reader.specs.Ballots.{BallotFile}
+use Rattle.ballots.specs.Ballots.{BallotFile}
 use Rattle.manifest.specs.Cards.{AreBatches, Batches, card_id, cards_of, place_of}
 use Rattle.manifest.specs.Linked.{linked_of}
 use Rattle.manifest.specs.declared.card.Card.{Card}

@@ -2,7 +2,7 @@
 use Rattle.std.specs.Prelude.{◌≡◌, ℕ, Bool, not, List, [], map, position, slice_index_or, Option, Some, None, option_map}
 use Rattle.std.specs.List.{list_any}
 use Rattle.irv_base.specs.Names.{Id, is_same}
-use Rattle.ballot_reader.specs.Ballots.{BallotFile}
+use Rattle.ballots.specs.Ballots.{BallotFile}
 use Rattle.manifest.specs.Cards.{Batches, card_id, cards_of}
 use Rattle.manifest.specs.declared.card.Card.{Card}
 use Rattle.manifest.specs.declared.link_fault.LinkFault.{LinkFault}

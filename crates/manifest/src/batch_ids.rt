@@ -5,7 +5,7 @@ ghost use Rattle.std.specs.Cmp.Lexicographic.{slice_cmp};
 ghost use Rattle.std.specs.Option.{unwrap_or};
 ghost use Rattle.std.specs.Ordering.{is_eq, nat_cmp};
 ghost use Rattle.irv_base.specs.Names.{is_among, is_same};
-ghost use Rattle.ballot_reader.specs.Ids.{digest};
+ghost use Rattle.ballot_ids.specs.Ids.{digest};
 ghost use Rattle.manifest.specs.BatchIds.{place_in};
 
 use crate::id_words::IdWords;

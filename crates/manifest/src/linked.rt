@@ -8,7 +8,7 @@ ghost use Rattle.irv_base.specs.declared.limits.TheConstants.{MOST_CARDS};
 use crate::link_fault::LinkFault;
 use crate::manifest::Manifest;
 use crate::recorded::Recorded;
-use ballot_reader::Ballots;
+use ballots::Ballots;
 use irv_base::Rankings;
 use std::alloc::Global;
 use std::marker::Model;

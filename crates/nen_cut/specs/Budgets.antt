@@ -1,4 +1,4 @@
--- How many sets stand beside the NEBs of a floor.
+-- How many sets the NEBs of a floor let stand.
 use Rattle.std.specs.Prelude.{ℕ, ◌<◌, ◌≤◌, Bool, true, false, not, ◌&&◌, ◌==◌, List}
 use Rattle.assertions.specs.Steps.{more}
 use Rattle.fewest.specs.Flows.{is_barred}

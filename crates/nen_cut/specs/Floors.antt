@@ -15,7 +15,7 @@ use Rattle.fewest.specs.Flows.{is_barred, is_cuttable}
 abbrev pub assertions_in : List Claim → List Assertion
 assertions_in claims = map (λ claim. claim.assertion) claims
 
--- how many sets stand beside the NEBs of the floor
+-- how many sets the NEBs of the floor let stand
 abbrev pub sets_beside : ℕ → List (List ℕ) → ℕ → ℕ → ℕ
 sets_beside n records winner floor =
     length (standing n winner (λ set c. not (is_barred n records floor set c)))

@@ -2,7 +2,7 @@
 use Rattle.std.specs.Prelude.{ℕ, ◌-◌, ◌^◌, ◌<◌, ◌≤◌, List}
 use Rattle.nen_cut.specs.Floors.{sets_beside}
 
--- nobody's set doesn't stand beside NEBs, nor that of the winner alone, nor that of all candidates
+-- of nobody's set, that of the winner alone and that of all candidates, NEBs let none stand
 abbrev pub SetsAreFew : Type 0
 SetsAreFew =
     (n winner floor : ℕ) (records : List (List ℕ)) → winner < n → 1 < n →

@@ -1,4 +1,4 @@
-// The sets that stand beside the NEBs.
+// The sets that the NEBs let stand.
 ghost use Rattle.std.specs.Prelude.{◌≡◌, ◌<◌, ◌≤◌, ℕ, List, IfOk};
 ghost use Rattle.irv_base.specs.Candidates.{candidates, set_of};
 ghost use Rattle.set_tallies.specs.Bags.{IsOf};
@@ -36,7 +36,7 @@ impl<'t, 'b> Goes for ByNebs<'t, 'b> {
     }
 }
 
-/// Whether no more sets stand beside the NEBs of at least the margin than this number.
+/// Whether the NEBs of at least the margin let no more sets stand than this number.
 pub(crate) fn is_within(
     alloc: Global,
     tallies: &Tallies<'_>,
@@ -69,7 +69,7 @@ pub(crate) fn is_within(
     }
 }
 
-/// Whether no more than `sets` sets stand beside the NEBs of at least the margin `least`.
+/// Whether the NEBs of at least the margin `least` let no more than `sets` sets stand.
 pub fn stand_within(
     alloc: Global,
     counted: &Counted,

@@ -17,7 +17,7 @@ pub fn three_candidates()
     ensures escapes { escapes 3 1 contests.three_candidates 1 3 2 ≡ true }
 {}
 
-/// Eight ballots of four candidates: eight sets stand beside the one NEB of margin 1.
+/// Eight ballots of four candidates: the one NEB of margin 1 lets eight sets stand.
 pub fn four_candidates()
     ensures nebs { nebs 4 eight_ballots 1 ≡ Assertion.Neb 2 3 ∷ [] }
     ensures sets { sets_beside 4 eight_ballots 2 1 ≡ 8 }

@@ -9,7 +9,7 @@ use std::fmt;
 /// Why the fewest NENs aren't found.
 #[derive(Clone, Copy, Debug, PartialEq, Eq)]
 pub enum NensFault {
-    /// More sets stand beside the NEBs than the budget has.
+    /// The NEBs let more sets stand than the budget has.
     Spent,
     /// No true assertions of at least the margin cover.
     Uncovered,

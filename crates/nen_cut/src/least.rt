@@ -56,7 +56,7 @@ pub struct FewestNens {
 /// The fewest NENs of at least the margin `least` that, with the NEBs of at least that margin, refute each order that elects another
 /// candidate than `winner`.
 ///
-/// If more than `sets` sets stand beside the NEBs, the answer is `Spent`. If no true assertions of that margin cover, it is `Uncovered`.
+/// If the NEBs let more than `sets` sets stand, the answer is `Spent`. If no true assertions of that margin cover, it is `Uncovered`.
 /// The other error is want of memory.
 pub fn fewest_nens(
     alloc: Global,

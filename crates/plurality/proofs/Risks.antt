@@ -5,7 +5,7 @@ use Rattle.std.proofs.lemmas.List.{length-map}
 use Rattle.std.proofs.lemmas.List.Elements.{All-map}
 use Rattle.irv_base.specs.Candidates.{all_but}
 use Rattle.irv_base.proofs.Members.{Member, contains-from_member, from_map, member-map}
-use Rattle.ballot_reader.specs.Ballots.{BallotFile}
+use Rattle.ballots.specs.Ballots.{BallotFile}
 use Rattle.manifest.specs.Cards.{Batches, cards_of}
 use Rattle.manifest.specs.Linked.{linked_of, recorded_of}
 use Rattle.manifest.specs.declared.recorded.Recorded.{Recorded}

@@ -4,7 +4,7 @@ use Rattle.std.specs.Fmt.{digits}
 use Rattle.std.specs.List.{range_with_len}
 use Rattle.std.proofs.lemmas.List.Elements.{All-nil, All-cons}
 use Rattle.irv_base.specs.Candidates.{is_distinct}
-use Rattle.ballot_reader.specs.Ballots.{IsSound as AreSound}
+use Rattle.ballots.specs.Ballots.{IsSound as AreSound}
 use Rattle.manifest.specs.Cards.{AreBatches}
 use Rattle.km_risk.specs.Printed.{printed_risk}
 use Rattle.km_risk.specs.Reach.{IsSequence, sequences}

@@ -1,6 +1,6 @@
 -- The contests of the worked examples.
 use Rattle.std.specs.Prelude.{ℕ, List, [], ◌∷◌, codes}
-use Rattle.ballot_reader.specs.Ballots.{BallotFile}
+use Rattle.ballots.specs.Ballots.{BallotFile}
 use Rattle.manifest.specs.Cards.{Batches}
 use Rattle.manifest.specs.declared.recorded.Recorded.{Recorded}
 use Rattle.manifest.specs.declared.recorded.Recorded.TheVariants.{Ranked}

@@ -2,7 +2,7 @@
 use Rattle.std.specs.Prelude.{◌≡◌, ◌≢◌, ◌⊎◌, ◌↔◌, ℕ, ◌+◌, ◌*◌, ◌^◌, ◌<◌, ◌≤◌, List, length, sum_by, count_by, All, Ok, Err}
 use Rattle.std.specs.List.{range_with_len}
 use Rattle.irv_base.specs.Candidates.{all_but}
-use Rattle.ballot_reader.specs.Ballots.{BallotFile}
+use Rattle.ballots.specs.Ballots.{BallotFile}
 use Rattle.manifest.specs.Cards.{Batches}
 use Rattle.manifest.specs.Linked.{linked_of}
 use Rattle.manifest.specs.declared.recorded.Recorded.{Recorded}

@@ -14,7 +14,7 @@
 --
 -- It is a count, and says nothing about chance: that every sequence is drawn as easily as every other is up to the seed.
 use Rattle.std.specs.Prelude.{◌≢◌, ◌≡◌, ℕ, ◌*◌, ◌^◌, ◌<◌, ◌≤◌, List, length, None, Ok}
-use Rattle.ballot_reader.specs.Ballots.{BallotFile, IsSound as AreSound}
+use Rattle.ballots.specs.Ballots.{BallotFile, IsSound as AreSound}
 use Rattle.manifest.specs.Cards.{Batches, AreBatches, cards_of}
 use Rattle.manifest.specs.Linked.{linked_of, first_without_card}
 use Rattle.km_risk.specs.Exact.{millionths_in_one}

@@ -6,7 +6,7 @@ ghost use Rattle.plurality.specs.Faults.{Refuses};
 use crate::fault::PluralFault;
 use crate::firsts::{all_but, first_preferences, greatest, set_of, with_number};
 use crate::plural::Plural;
-use ballot_reader::Ballots;
+use ballots::Ballots;
 use irv_base::{Candidate, Memory};
 use std::alloc::Global;
 

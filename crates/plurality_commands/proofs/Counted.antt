@@ -5,7 +5,7 @@ use Rattle.manifest.specs.Cards.{Batches, cards_of}
 use Rattle.manifest.specs.Linked.{first_without_card}
 use Rattle.plurality.proofs.Margins.{margins_fit}
 use Rattle.manifest.proofs.FewBallots.{few_ballots}
-use Rattle.ballot_reader.specs.Ballots.{BallotFile}
+use Rattle.ballots.specs.Ballots.{BallotFile}
 use Rattle.desk.specs.declared.served.Served.{Served}
 use Rattle.cli_base.specs.Begun.{HasCome}
 use Rattle.cli_base.specs.Due.{IsOneOrMemory}

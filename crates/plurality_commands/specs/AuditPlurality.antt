@@ -1,6 +1,6 @@
 -- `plurality SESSION BALLOTS MANIFEST SEEN`: the session of a plurality contest goes on by a round.
 use Rattle.std.specs.Prelude.{ℕ, List, [], ◌∷◌, length, Result, Ok}
-use Rattle.ballot_reader.specs.Ballots.{BallotFile}
+use Rattle.ballots.specs.Ballots.{BallotFile}
 use Rattle.manifest.specs.Cards.{Batches, cards_of}
 use Rattle.manifest.specs.Linked.{linked_of}
 use Rattle.session_state.specs.Content.{Content}

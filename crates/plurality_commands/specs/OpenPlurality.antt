@@ -1,8 +1,8 @@
 -- `plurality BALLOTS MANIFEST`: the session of an audit of a plurality contest before its first round.
 use Rattle.std.specs.Prelude.{ℕ, List, [], ◌∷◌, length, Result, Ok, Err}
 use Rattle.sha2.specs.Sha256.{sha256}
-use Rattle.ballot_reader.specs.Ballots.{BallotFile}
-use Rattle.ballot_reader.specs.Grammar.{ballots_of}
+use Rattle.ballots.specs.Ballots.{BallotFile}
+use Rattle.ballots.specs.Grammar.{ballots_of}
 use Rattle.manifest.specs.Cards.{Batches, cards_of}
 use Rattle.session_state.specs.Content.{begun_with}
 use Rattle.session_state.specs.declared.digests.Digests.{Digests}

@@ -1,7 +1,7 @@
 -- The outcome of a plurality contest, to its commands: they go on with it, or end with its tie.
 use Rattle.std.specs.Prelude.{◌≡◌, ℕ, List, [], length, Result, Err}
 use Rattle.sha2.specs.Sha256.{sha256}
-use Rattle.ballot_reader.specs.Ballots.{BallotFile}
+use Rattle.ballots.specs.Ballots.{BallotFile}
 use Rattle.report.specs.Ends.{tie_text}
 use Rattle.cli_base.specs.Outcome.{Verdict, Answered}
 use Rattle.cli_base.specs.Script.{Script}

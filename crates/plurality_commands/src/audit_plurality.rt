@@ -14,7 +14,7 @@ ghost use Rattle.plurality_commands.specs.AuditPlurality.{after_ballots, after_c
 ghost use Rattle.plurality_commands.specs.Outcome.{outcome_in};
 
 use crate::no_winner::no_winner;
-use ballot_reader::Ballots;
+use ballots::Ballots;
 use cli_base::{Answer, Refusal};
 use command::AuditPluralityTask;
 use desk::Desk;

@@ -8,7 +8,7 @@ ghost use Rattle.plurality.specs.Faults.{Refuses};
 ghost use Rattle.report.specs.Ends.{tie_text};
 ghost use Rattle.plurality_commands.specs.Outcome.{TellsOfTie, outcome_in};
 
-use ballot_reader::Ballots;
+use ballots::Ballots;
 use cli_base::{Answer, AnswerKind, Refusal};
 use irv_base::{CandSet, Name};
 use plurality::PluralFault;

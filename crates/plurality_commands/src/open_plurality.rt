@@ -13,7 +13,7 @@ ghost use Rattle.plurality_commands.specs.OpenPlurality.{after_ballots, digests_
 ghost use Rattle.plurality_commands.specs.Outcome.{outcome_in};
 
 use crate::no_winner::no_winner;
-use ballot_reader::Ballots;
+use ballots::Ballots;
 use cli_base::{Answer, AnswerKind, Refusal};
 use command::OpenPluralityTask;
 use desk::Desk;

@@ -2,12 +2,13 @@
 ghost use Rattle.std.specs.Prelude.{◌≤◌};
 
 use audit_session::Claims;
-use ballot_reader::{Ballots, read_ballots};
+use ballot_reader::read_ballots;
+use ballots::Ballots;
 use irv_base::{CandSet, Candidate, Rankings};
 use plurality::{Plural, PluralFault, plurality};
 use std::alloc::{AllocError, Global};
 
-// The ballots of three candidates, who stand first on so many as the lines say.
+// The ballots of three candidates, each of whom is first on as many as the lines say.
 fn ballots(alloc: Global, lines: &str) -> Option<Ballots> {
     let text = format!(in alloc; "1\nContest,7,3,1,2,3\n{lines}").ok()?;
     read_ballots(alloc, text.as_bytes(), None).ok()

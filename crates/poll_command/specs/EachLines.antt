@@ -1,4 +1,4 @@
--- What a poll with a look after each draw tells: its contest, its winner and its numbers, the end of each claim, and whether a draw
+-- What a poll with a look after each draw prints: its contest, its winner and its numbers, the end of each claim, and whether a draw
 -- confirms each.
 use Rattle.std.specs.Prelude.{ℕ, Bool, List, [], ◌∷◌, ◌++◌, Option, None, Some, codes}
 use Rattle.std.specs.Fmt.{decimal}
@@ -31,7 +31,7 @@ gamma_text None = codes "best"
 abbrev pub term_lines : List ℕ → List ℕ → List ℕ
 term_lines gamma seed = codes "gamma " ++ gamma ++ codes "\nseed " ++ seed ++ codes "\n"
 
--- of a poll over so many cards
+-- of a poll over this many cards
 abbrev pub head_lines : Content → ℕ → PollEachTask → List ℕ
 head_lines file cards task =
     name_lines file.contest (id_of file.candidates file.winner)

@@ -24,7 +24,7 @@ use manifest::Manifest;
 use polling::{EachEnd, PollFault, poll_each};
 use std::alloc::Global;
 
-/// What a poll of the cards tells of the assertions, looked at after each draw, and whether it confirms all of them.
+/// What a poll of the cards says of the assertions, looked at after each draw, and whether it confirms all of them.
 pub fn answer<D: Desk>(alloc: Global, desk: &mut D, task: &PollEachTask) -> Result<Answer, Refusal>
     requires { IsWithinLimits task.now }
     ensures held { D.held desk.new ≡ D.held desk.old }
@@ -108,7 +108,7 @@ fn poll_of(
     }
 }
 
-// The answer that tells of the poll.
+// The answer that describes the poll.
 fn each_answer(
     alloc: Global,
     task: &PollEachTask,

@@ -1,4 +1,4 @@
-// What a poll with a look after each draw tells.
+// What a poll with a look after each draw prints.
 ghost use Rattle.std.specs.Prelude.{◌≡◌, ◌≤◌, ◌++◌, length, codes, IfOk, IsTrue, string_bytes};
 ghost use Rattle.std.specs.Fmt.{decimal};
 ghost use Rattle.irv_base.specs.declared.limits.TheConstants.{ROOM};
@@ -156,7 +156,7 @@ fn add_ends(
     Ok(())
 }
 
-/// The lines of a poll with a look after each draw, over a manifest of so many cards: its contest, its winner and its numbers, with the
+/// The lines of a poll with a look after each draw, over a manifest of this many cards: its contest, its winner and its numbers, with the
 /// limit in millionths and gammas in thousandths, for each assertion the counts of its seen values, the risk and the draw that confirms it,
 /// and whether all are confirmed. Every line ends with a line feed.
 pub fn each_table(

@@ -36,7 +36,7 @@ impl Draws {
     }
 }
 
-// The first candidates, so many of them.
+// The first candidates, this many of them.
 fn candidates(alloc: Global, n: u64) -> Result<Vec<Candidate>, AllocError> {
     let mut list = Vec::new(alloc);
     for c in 0..MOST {
@@ -60,7 +60,7 @@ fn ranking(draws: &mut Draws, candidates: &[Candidate]) -> Ranking {
     ranking
 }
 
-/// The contest of this number, of one of so many numbers of candidates in turn.
+/// The contest of this number, with one of this many numbers of candidates in turn.
 pub fn generated(alloc: Global, number: u64, sizes: u64) -> Result<Contest, AllocError> {
     drawn(alloc, number, sizes, 20, 100)
 }
@@ -70,7 +70,7 @@ pub fn generated_with_ties(alloc: Global, number: u64) -> Result<Contest, AllocE
     drawn(alloc, number, SMALL_SIZES, 0, 12)
 }
 
-// It has `fewest` ballots or more, one of so many numbers of ballots.
+// It has `fewest` ballots or more, one of this many numbers of ballots.
 fn drawn(
     alloc: Global,
     number: u64,

@@ -1,8 +1,8 @@
 -- Status 0 of a check comes with an assertion file that holds of the ballots.
 use Rattle.std.proofs.Common.{◌≡◌, ℕ, List, Some, Ok, Err, refl, subst}
 use Rattle.desk.specs.Desk.{File}
-use Rattle.ballot_reader.specs.Ballots.{BallotFile}
-use Rattle.ballot_reader.specs.Grammar.{ballots_of}
+use Rattle.ballots.specs.Ballots.{BallotFile}
+use Rattle.ballots.specs.Grammar.{ballots_of}
 use Rattle.assertion_file.specs.Content.{Content}
 use Rattle.assertion_file.specs.Reading.{assertion_file_of}
 use Rattle.cover_checker.specs.Checks.{IsAnswer}

@@ -5,8 +5,8 @@ use Rattle.std.specs.List.{list_all}
 use Rattle.irv_base.specs.Names.{Id, is_name}
 use Rattle.irv_base.specs.Tabulation.{AllElect}
 use Rattle.assertions.proofs.Decided.{proof-decided}
-use Rattle.ballot_reader.specs.Ballots.{BallotFile, AreCandidates}
-use Rattle.ballot_reader.specs.Grammar.{ballots_of}
+use Rattle.ballots.specs.Ballots.{BallotFile, AreCandidates}
+use Rattle.ballots.specs.Grammar.{ballots_of}
 use Rattle.assertion_file.specs.Content.{Content}
 use Rattle.assertion_file.specs.Reading.{assertion_file_of}
 use Rattle.assertion_file.specs.Text.{assertion_file_text}

@@ -3,8 +3,8 @@ use Rattle.std.proofs.Common.{◌≡◌, ◌∙◌, ℕ, ◌<◌, ◌==◌, Bool
 use Rattle.desk.specs.Desk.{File}
 use Rattle.irv_base.specs.Names.{Id}
 use Rattle.assertions.specs.declared.assertion.Assertion.{Assertion}
-use Rattle.ballot_reader.specs.Ballots.{BallotFile}
-use Rattle.ballot_reader.specs.Grammar.{ballots_of}
+use Rattle.ballots.specs.Ballots.{BallotFile}
+use Rattle.ballots.specs.Grammar.{ballots_of}
 use Rattle.budget.specs.declared.budget.Budget.{Budget}
 use Rattle.budget.specs.declared.budget.Budget.TheVariants.{Sets}
 use Rattle.claims_file.specs.Claimed.{Claimed}

@@ -6,7 +6,7 @@ use Rattle.desk.specs.Desk.{File}
 use Rattle.desk.specs.declared.served.Served.{Served}
 use Rattle.cli_base.specs.Begun.{HasCome}
 use Rattle.cli_base.proofs.Begun.{due_of}
-use Rattle.ballot_reader.specs.Ballots.{BallotFile}
+use Rattle.ballots.specs.Ballots.{BallotFile}
 use Rattle.budget.specs.declared.budget.Budget.TheVariants.{Sets}
 use Rattle.contest_search.specs.Contest.{candidate_count}
 use Rattle.assertion_file.specs.Content.{Content}

@@ -16,7 +16,7 @@ use Rattle.assertions.proofs.Certificates.{certificate_is_proper, certificate_is
 use Rattle.assertions.proofs.Endings.{alternative_orders_are}
 use Rattle.assertions.proofs.Lows.{low-refuter}
 use Rattle.assertions.proofs.Decided.{decided-positive}
-use Rattle.ballot_reader.specs.Ballots.{BallotFile}
+use Rattle.ballots.specs.Ballots.{BallotFile}
 use Rattle.assertion_file.specs.Content.{Content}
 use Rattle.cli_base.proofs.Scripts.{some_is}
 use Rattle.contest_search.specs.Certificate.{margin_of, certificate_of, IsCertificateOfDecided}

@@ -1,8 +1,8 @@
 -- Searches with two budgets come to one end, but for a budget that is spent; and searches and trials by sets come to one end.
 use Rattle.std.proofs.Common.{◌≡◌, ◌⊎◌, inl, inr, ℕ, ◌<◌, ◌≤◌, Bool, true, false, List, Option, MatchBool, refl, sym, ap, subst, arith, ◌∙◌}
 use Rattle.assertions.specs.Hardness.{first_bound, start_order}
-use Rattle.ballot_reader.specs.Ballots.{BallotFile}
-use Rattle.ballot_reader.specs.Grammar.{ballots_of}
+use Rattle.ballots.specs.Ballots.{BallotFile}
+use Rattle.ballots.specs.Grammar.{ballots_of}
 use Rattle.assertion_file.specs.Content.{Content}
 use Rattle.assertion_file.specs.Text.{assertion_file_text}
 use Rattle.budget.specs.declared.budget.Budget.{Budget}

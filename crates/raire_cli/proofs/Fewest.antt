@@ -15,8 +15,8 @@ use Rattle.assertions.specs.Suffixes.{alternative_orders}
 use Rattle.assertions.proofs.Elections.{from_covers}
 use Rattle.assertions.proofs.Endings.{alternative-member, from_alternative}
 use Rattle.fewest.specs.Nens.{is_enough}
-use Rattle.ballot_reader.specs.Ballots.{BallotFile}
-use Rattle.ballot_reader.specs.Grammar.{ballots_of}
+use Rattle.ballots.specs.Ballots.{BallotFile}
+use Rattle.ballots.specs.Grammar.{ballots_of}
 use Rattle.assertion_file.specs.Content.{Content}
 use Rattle.assertion_file.specs.Text.{assertion_file_text}
 use Rattle.cover_checker.proofs.Held.{all-from_members, refuting_claim}

@@ -2,7 +2,7 @@
 use Rattle.std.proofs.Common.{◌≡◌, inl, inr, ℕ, ◌≤◌, length, nat_le, Bool, true, false, if◌then◌else◌, List, Option, None, Some, Result, Ok, Err, sym, ap, subst, ◌∙◌, leb-true, le-leb, refl}
 use Rattle.std.specs.Prelude.{ok_or, option_map}
 use Rattle.desk.specs.Desk.{File, held_bytes}
-use Rattle.ballot_reader.specs.Ballots.{BallotFile}
+use Rattle.ballots.specs.Ballots.{BallotFile}
 use Rattle.manifest.specs.Cards.{Batches}
 use Rattle.manifest.specs.Linked.{first_without_card}
 use Rattle.manifest.specs.Manifest.{manifest_of}

@@ -3,8 +3,8 @@ use Rattle.std.proofs.Common.{◌≡◌, ◌≤◌, ℕ, List, [], length, Optio
 use Rattle.std.specs.Prelude.{option_map}
 use Rattle.desk.specs.Desk.{File}
 use Rattle.budget.specs.declared.budget.Budget.{Budget}
-use Rattle.ballot_reader.specs.Ballots.{BallotFile}
-use Rattle.ballot_reader.specs.Grammar.{ballots_of}
+use Rattle.ballots.specs.Ballots.{BallotFile}
+use Rattle.ballots.specs.Grammar.{ballots_of}
 use Rattle.assertion_file.specs.Content.{Content, Plan, HasNames, IsDrawCount, IsSound, IsSoundClaim, IsSoundPlan, candidate_count}
 use Rattle.assertion_file.specs.Reading.{assertion_file_of}
 use Rattle.assertion_file.specs.Text.{assertion_file_text}

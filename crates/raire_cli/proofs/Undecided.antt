@@ -7,10 +7,10 @@ use Rattle.irv_base.specs.Names.{Id}
 use Rattle.irv_base.specs.declared.limits.TheConstants.{FEWEST_CANDIDATES}
 use Rattle.assertions.proofs.Decided.{positive-decided}
 use Rattle.bound_search.specs.Race.{work_for}
-use Rattle.ballot_reader.specs.Ballots.{BallotFile}
+use Rattle.ballots.specs.Ballots.{BallotFile}
 use Rattle.budget.specs.declared.budget.Budget.{Budget}
 use Rattle.budget.specs.declared.budget.Budget.TheVariants.{Nodes, Sets}
-use Rattle.ballot_reader.specs.Grammar.{ballots_of}
+use Rattle.ballots.specs.Grammar.{ballots_of}
 use Rattle.cli_base.specs.Outcome.{Verdict, Answered}
 use Rattle.cli_base.specs.Script.{Script, Read, Ends, AsHeld, Concludes, ComesTo}
 use Rattle.cli_base.specs.Statuses.{HasAnswer}

@@ -1,7 +1,7 @@
 -- What it means that a check accepts an assertion file.
 use Rattle.std.specs.Prelude.{◌≡◌, ℕ, List, Option, IfSome}
 use Rattle.desk.specs.Desk.{File}
-use Rattle.ballot_reader.specs.Ballots.{BallotFile}
+use Rattle.ballots.specs.Ballots.{BallotFile}
 use Rattle.assertion_file.specs.Content.{Content}
 use Rattle.cover_checker.specs.Holds.{Holds}
 use Rattle.cli_base.specs.Ends.{Writing, Took}

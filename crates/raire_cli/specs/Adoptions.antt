@@ -3,7 +3,7 @@ use Rattle.std.specs.Prelude.{◌≡◌, ◌⊎◌, ℕ, List, Option, IfSome, O
 use Rattle.desk.specs.Desk.{File}
 use Rattle.irv_base.specs.Tabulation.{AllElect}
 use Rattle.assertions.specs.Laws.{IsProof}
-use Rattle.ballot_reader.specs.Ballots.{BallotFile}
+use Rattle.ballots.specs.Ballots.{BallotFile}
 use Rattle.assertion_file.specs.Content.{Content}
 use Rattle.assertion_file.specs.Reading.{assertion_file_of}
 use Rattle.assertion_file.specs.Text.{assertion_file_text}

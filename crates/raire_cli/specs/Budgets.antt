@@ -2,7 +2,7 @@
 use Rattle.std.specs.Prelude.{ℕ, ◌≤◌, List}
 use Rattle.assertions.specs.Hardness.{first_bound}
 use Rattle.bound_search.specs.Race.{work_for}
-use Rattle.ballot_reader.specs.Ballots.{BallotFile}
+use Rattle.ballots.specs.Ballots.{BallotFile}
 use Rattle.budget.specs.declared.budget.Budget.{Budget}
 use Rattle.budget.specs.declared.budget.Budget.TheVariants.{Nodes, Sets}
 use Rattle.contest_search.specs.Budget.{nodes_for, sets_of}

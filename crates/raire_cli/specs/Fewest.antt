@@ -7,8 +7,8 @@ use Rattle.assertions.specs.Assertions.{is_proper, is_true, true_margin}
 use Rattle.assertions.specs.Refutation.{refutes}
 use Rattle.assertions.specs.Suffixes.{IsAlternative}
 use Rattle.fewest.specs.Nens.{nen_count}
-use Rattle.ballot_reader.specs.Ballots.{BallotFile}
-use Rattle.ballot_reader.specs.Grammar.{ballots_of}
+use Rattle.ballots.specs.Ballots.{BallotFile}
+use Rattle.ballots.specs.Grammar.{ballots_of}
 use Rattle.assertion_file.specs.Content.{Content}
 use Rattle.assertion_file.specs.Text.{assertion_file_text}
 use Rattle.report.specs.Texts.{order_text}

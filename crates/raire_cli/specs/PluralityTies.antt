@@ -1,7 +1,7 @@
 -- What it means that a plurality contest has a tie.
 use Rattle.std.specs.Prelude.{◌≡◌, ◌⊎◌, ℕ, List, length, Some}
 use Rattle.desk.specs.Desk.{File, held_bytes}
-use Rattle.ballot_reader.specs.Ballots.{BallotFile}
+use Rattle.ballots.specs.Ballots.{BallotFile}
 use Rattle.session_state.specs.Content.{Content}
 use Rattle.session_file.specs.Reading.{session_of}
 use Rattle.plurality.specs.Ties.{AreTied}

@@ -98,7 +98,7 @@ WereAllWithin poll = WereWithin poll.asks.task poll.inputs
 
 -- ---- what `run` promises
 
--- Status 0 and 10 of a poll: `out` tells the poll of the words and files. It is 0 exactly where that confirms each claim. Then the
+-- Status 0 and 10 of a poll: `out` has the result of the poll of the words and files. It is 0 exactly if that confirms each claim. Then the
 -- exact risk of each claim is within the limit.
 abbrev pub IsPolled : Option (List File) → List (List ℕ) → ℕ → Writing → Type 0
 IsPolled held words status out =

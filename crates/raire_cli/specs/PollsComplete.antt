@@ -15,7 +15,7 @@ use Rattle.raire_cli.specs.Held.{Says}
 use Rattle.raire_cli.specs.Polls.{PollInputs, cards}
 use Rattle.raire_cli.specs.PollsEach as each
 
--- the three files of a poll are held, not too long and accepted. With so many nodes it is known that the claims refute each order that
+-- the three files of a poll are held, not too long and accepted. With this many nodes it is known that the claims refute each order that
 -- elects another candidate than the file says.
 pub record ArePollable (files : List File) (manifest assertions seen : List ℕ) (nodes : ℕ)
     (inputs : PollInputs) : Type 0 where
@@ -24,7 +24,7 @@ pub record ArePollable (files : List File) (manifest assertions seen : List ℕ)
   pub of_seen : Says files seen (seen_of inputs.batches inputs.file.candidates) inputs.entries
   pub covered : uncovered nodes inputs.file ≡ None
 
--- The words ask for a poll of such files, and what is seen of each drawn card is told.
+-- The words ask for a poll of such files, and each drawn card has a record of what is seen.
 pub record IsPollable (words : List (List ℕ)) (files : List File) : Type 0 where
   pub asks : Asks Poll words
   pub inputs : PollInputs
@@ -33,7 +33,7 @@ pub record IsPollable (words : List (List ℕ)) (files : List File) : Type 0 whe
   pub all_told :
       unseen_draw asks.task.seed (cards asks.task inputs) inputs.entries asks.task.draws ≡ None
 
--- The words ask for a poll of such files with a look after each draw, and what is seen is told of each card that is asked of.
+-- The words ask for a poll of such files with a look after each draw, and each card that is needed has a record of what is seen.
 pub record IsEachPollable (words : List (List ℕ)) (files : List File) : Type 0 where
   pub asks : Asks PollEach words
   pub inputs : PollInputs

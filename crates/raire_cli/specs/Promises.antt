@@ -4,7 +4,7 @@ use Rattle.desk.specs.Desk.{File}
 use Rattle.desk.specs.declared.served.Served.{Served}
 use Rattle.irv_base.specs.Tabulation.{HasNoTie}
 use Rattle.bound_search.specs.Race.{work_for}
-use Rattle.ballot_reader.specs.Ballots.{BallotFile}
+use Rattle.ballots.specs.Ballots.{BallotFile}
 use Rattle.cli_base.specs.Script.{limit}
 use Rattle.cli_base.specs.Ends.{Writing}
 use Rattle.cli_base.specs.Statuses.{ContestsStatuses, IsQuiet, IsUndone, Exactly, IsExact, Statuses}

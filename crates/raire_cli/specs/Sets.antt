@@ -3,7 +3,7 @@ use Rattle.std.specs.Prelude.{◌≡◌, ◌≢◌, ◌⊎◌, ◌≤◌, ◌<�
 use Rattle.std.specs.List.{list_all}
 use Rattle.desk.specs.Desk.{File}
 use Rattle.assertions.specs.Assertions.{is_true}
-use Rattle.ballot_reader.specs.Ballots.{BallotFile}
+use Rattle.ballots.specs.Ballots.{BallotFile}
 use Rattle.manifest.specs.Cards.{Batches}
 use Rattle.assertion_file.specs.Content.{Content, candidate_count as count_in}
 use Rattle.assertion_file.specs.Reading.{assertion_file_of}

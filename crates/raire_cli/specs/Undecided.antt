@@ -1,7 +1,7 @@
 -- What it means that ways of breaking a contest's ties elect different candidates: the meaning of status 3.
 use Rattle.std.specs.Prelude.{◌≡◌, ◌⊎◌, ℕ, List, Option, Some, IfSome, IsTrue}
 use Rattle.desk.specs.Desk.{File}
-use Rattle.ballot_reader.specs.Ballots.{BallotFile}
+use Rattle.ballots.specs.Ballots.{BallotFile}
 use Rattle.cli_base.specs.Ends.{Writing, Took}
 use Rattle.cli_base.specs.Statuses.{IsQuiet}
 use Rattle.command_line.specs.Line.{command_of}

@@ -1,7 +1,7 @@
 -- The worked examples.
 use Rattle.std.specs.Prelude.{List, [], ◌∷◌, ◌++◌, codes, replicate}
 use Rattle.irv_base.specs.Names.{Id}
-use Rattle.ballot_reader.specs.Ballots.{BallotFile}
+use Rattle.ballots.specs.Ballots.{BallotFile}
 use Rattle.km_risk.specs.declared.draws.Counts.{Counts}
 
 abbrev pub three_names : List Id

@@ -3,7 +3,7 @@ use Rattle.std.specs.Prelude.{ℕ, ◌+◌, List, [], ◌∷◌, ◌++◌, lengt
 use Rattle.std.specs.Fmt.{decimal}
 use Rattle.irv_base.specs.Candidates.{candidates, is_in, members}
 use Rattle.irv_base.specs.Names.{Id}
-use Rattle.ballot_reader.specs.Ballots.{BallotFile}
+use Rattle.ballots.specs.Ballots.{BallotFile}
 use Rattle.irv_tabulator.specs.Rounds.{Count, rounds_of}
 use Rattle.assertion_file.specs.Ids.{id_of}
 use Rattle.report.specs.Texts.{set_text}

@@ -10,7 +10,7 @@ ghost use Rattle.report.specs.Texts.{set_text};
 
 use crate::text::{choose, set_text};
 use assertion_file::id_of;
-use ballot_reader::Votes;
+use ballots::Votes;
 use irv_base::{CandSet, Candidate, Memory, Name, Order};
 use irv_tabulator::{Round, Tabulated};
 use std::alloc::{AllocError, Global};

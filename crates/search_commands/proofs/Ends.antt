@@ -10,7 +10,7 @@ use Rattle.assertions.specs.Hardness.{first_bound, start_order}
 use Rattle.assertions.proofs.Alternatives.{order_is}
 use Rattle.assertions.proofs.Decided.{decided-positive, positive-decided, decided_exactly}
 use Rattle.assertions.proofs.Endings.{alternative_orders_are}
-use Rattle.ballot_reader.specs.Ballots.{BallotFile}
+use Rattle.ballots.specs.Ballots.{BallotFile}
 use Rattle.assertion_file.specs.Text.{assertion_file_text}
 use Rattle.report.specs.Ends.{spent_sets_text, spent_text, tie_text}
 use Rattle.report.specs.Tabulations.{tabulation_text}

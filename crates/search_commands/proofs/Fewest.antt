@@ -1,7 +1,7 @@
 -- A search for the fewest NENs comes to one status, and what it comes to of each kind.
 use Rattle.std.proofs.Common.{◌≡◌, inl, inr, ℕ, ◌<◌, Bool, true, false, List, Option, MatchBool, codes, refl, sym, ap, subst, arith, ◌∙◌}
-use Rattle.ballot_reader.specs.Ballots.{BallotFile}
-use Rattle.ballot_reader.specs.Grammar.{ballots_of}
+use Rattle.ballots.specs.Ballots.{BallotFile}
+use Rattle.ballots.specs.Grammar.{ballots_of}
 use Rattle.assertion_file.specs.Content.{Content}
 use Rattle.budget.specs.declared.budget.Budget.TheVariants.{Sets}
 use Rattle.cli_base.specs.Due.{IsOrMemory, IsOneOrMemory}

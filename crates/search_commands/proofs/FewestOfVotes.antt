@@ -2,7 +2,7 @@
 use Rattle.std.proofs.Common.{◌≡◌, inl, inr, subst, Bool, true, false, List, ℕ, Option}
 use Rattle.std.specs.Bool.{MatchBool}
 use Rattle.budget.specs.declared.budget.Budget.TheVariants.{Sets}
-use Rattle.ballot_reader.specs.Ballots.{BallotFile, votes_of}
+use Rattle.ballots.specs.Ballots.{BallotFile, votes_of}
 use Rattle.assertion_file.specs.Content.{Content}
 use Rattle.cli_base.specs.Outcome.{Verdict}
 use Rattle.command.specs.declared.plan_terms.PlanTerms.{PlanTerms}

@@ -6,7 +6,7 @@ use Rattle.desk.specs.declared.served.Served.{Served}
 use Rattle.cli_base.specs.Begun.{HasCome}
 use Rattle.cli_base.proofs.Begun.{EndsNow}
 use Rattle.irv_base.specs.Names.{Id}
-use Rattle.ballot_reader.specs.Ballots.{BallotFile}
+use Rattle.ballots.specs.Ballots.{BallotFile}
 use Rattle.cli_base.specs.Outcome.{Outcome, Verdict, outcome}
 use Rattle.cli_base.specs.Script.{Script, Read, Runs, Bytes, Agree, ByDesk, SameButBudget, SameStatus}
 use Rattle.input_files.specs.Judged.{go_on, told}

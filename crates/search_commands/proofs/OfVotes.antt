@@ -3,7 +3,7 @@ use Rattle.std.proofs.Common.{◌≡◌, inl, inr, refl, subst, Bool, true, fals
 use Rattle.std.specs.Bool.{MatchBool}
 use Rattle.budget.specs.declared.budget.Budget.{Budget}
 use Rattle.budget.specs.declared.budget.Budget.TheVariants.{Nodes, Sets}
-use Rattle.ballot_reader.specs.Ballots.{BallotFile, votes_of}
+use Rattle.ballots.specs.Ballots.{BallotFile, votes_of}
 use Rattle.cli_base.specs.Outcome.{Verdict}
 use Rattle.command.specs.declared.plan_terms.PlanTerms.{PlanTerms}
 use Rattle.command.specs.declared.search.SearchTask.{SearchTask}

@@ -5,7 +5,7 @@ use Rattle.budget.specs.declared.budget.Budget.TheVariants.{Nodes, Sets}
 use Rattle.irv_base.specs.Names.{Id}
 use Rattle.irv_base.specs.Orders.{is_order}
 use Rattle.assertions.proofs.Listings.{start_is_alternative}
-use Rattle.ballot_reader.specs.Ballots.{BallotFile}
+use Rattle.ballots.specs.Ballots.{BallotFile}
 use Rattle.contest_search.specs.Budget.{IsSpentIn, IsSpentBySetsIn}
 use Rattle.contest_search.specs.Contest.{candidate_count}
 use Rattle.report.specs.Ends.{spent_sets_text, spent_text}

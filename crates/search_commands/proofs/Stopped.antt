@@ -4,7 +4,7 @@ use Rattle.irv_base.specs.Tabulation.{HasNoTie}
 use Rattle.set_tallies.specs.Bags.{Kept, IsOf}
 use Rattle.irv_tabulator.specs.declared.tabulated.Tabulated.{Tabulated}
 use Rattle.bound_search.specs.Race.{work_for, IsTooMuch}
-use Rattle.ballot_reader.specs.Ballots.{BallotFile}
+use Rattle.ballots.specs.Ballots.{BallotFile}
 use Rattle.contest_search.specs.Contest.{candidate_count}
 use Rattle.contest_search.specs.Found.{IsCounted}
 use Rattle.contest_search.proofs.Findings.{of_ballots, tabulated_there, won_by}

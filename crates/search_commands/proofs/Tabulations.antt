@@ -1,7 +1,7 @@
 -- A tabulation comes to one end, but for its budget.
 use Rattle.std.proofs.Common.{◌≡◌, inl, inr, ℕ, List, refl, sym, ap, ◌∙◌}
-use Rattle.ballot_reader.specs.Ballots.{BallotFile}
-use Rattle.ballot_reader.specs.Grammar.{ballots_of}
+use Rattle.ballots.specs.Ballots.{BallotFile}
+use Rattle.ballots.specs.Grammar.{ballots_of}
 use Rattle.report.specs.Tabulations.{tabulation_text}
 use Rattle.cli_base.specs.Outcome.{Verdict, outcome}
 use Rattle.cli_base.specs.Script.{Agree, AreOfKind, IsOfKind, SameButBudget}

@@ -2,7 +2,7 @@
 use Rattle.std.proofs.Common.{◌≡◌, ℕ, List, sym, ap, ◌∙◌}
 use Rattle.irv_base.specs.Names.{Id}
 use Rattle.irv_base.proofs.Ties.{first_tie_is_one}
-use Rattle.ballot_reader.specs.Ballots.{BallotFile}
+use Rattle.ballots.specs.Ballots.{BallotFile}
 use Rattle.report.specs.Ends.{tie_text}
 use Rattle.contest_search.specs.Contest.{candidate_count, IsElected, IsTie}
 use Rattle.search_commands.specs.Ends.{HasTie}

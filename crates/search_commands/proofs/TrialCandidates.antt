@@ -10,7 +10,7 @@ use Rattle.std.proofs.lemmas.List.FromFn.{length-map-range_with_len, map-range_w
 use Rattle.irv_base.specs.Names.{Id, is_among, is_name, is_name_byte, is_same, has_name_length, touches_space, all_differ}
 use Rattle.irv_base.specs.declared.limits.TheConstants.{FEWEST_CANDIDATES, MOST_CANDIDATES, MOST_NAME_BYTES}
 use Rattle.csv_rows.proofs.Numbers.{AreDigits, own}
-use Rattle.ballot_reader.specs.Ballots.{AreCandidates}
+use Rattle.ballots.specs.Ballots.{AreCandidates}
 use Rattle.search_commands.specs.Trial.{trial_candidates}
 
 -- ---- a number in digits is an id

@@ -6,7 +6,7 @@ use Rattle.assertions.specs.Suffixes.{factorial}
 use Rattle.assertions.proofs.Decided.{decided-positive}
 use Rattle.budget.specs.declared.budget.Budget.{Budget}
 use Rattle.budget.specs.declared.budget.Budget.TheVariants.{Nodes, Sets}
-use Rattle.ballot_reader.specs.Ballots.{BallotFile}
+use Rattle.ballots.specs.Ballots.{BallotFile}
 use Rattle.assertion_file.specs.Content.{Content}
 use Rattle.assertion_file.specs.Text.{assertion_file_text}
 use Rattle.cover_checker.specs.Covers.{IsEnoughFor}

@@ -2,7 +2,7 @@
 use Rattle.std.specs.Prelude.{◌≡◌, ℕ, List}
 use Rattle.budget.specs.declared.budget.Budget.{Budget}
 use Rattle.budget.specs.declared.budget.Budget.TheVariants.{Nodes, Sets}
-use Rattle.ballot_reader.specs.Ballots.{BallotFile}
+use Rattle.ballots.specs.Ballots.{BallotFile}
 use Rattle.contest_search.specs.Budget.{IsSpent, IsSpentBySets, IsTold}
 use Rattle.contest_search.specs.Contest.{IsTie}
 use Rattle.report.specs.Ends.{spent_sets_text, spent_text, tie_text}

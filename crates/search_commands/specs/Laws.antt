@@ -4,7 +4,7 @@ use Rattle.budget.specs.declared.budget.Budget.{Budget}
 use Rattle.budget.specs.declared.budget.Budget.TheVariants.{Nodes, Sets}
 use Rattle.assertions.specs.Hardness.{first_bound}
 use Rattle.irv_base.specs.declared.limits.TheConstants.{FEWEST_CANDIDATES}
-use Rattle.ballot_reader.specs.Ballots.{BallotFile}
+use Rattle.ballots.specs.Ballots.{BallotFile}
 use Rattle.cover_checker.specs.Covers.{IsEnoughFor}
 use Rattle.cli_base.specs.Outcome.{Verdict, Answered, One}
 use Rattle.cli_base.specs.declared.outcome.AnswerKind.{AnswerKind}

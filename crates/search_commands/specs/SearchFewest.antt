@@ -1,8 +1,8 @@
 -- `search FILE --fewest`: assertions that together confirm the winner of a ballot file's contest with the fewest NENs, or why there are none.
 use Rattle.std.specs.Prelude.{◌≡◌, ◌⊎◌, ◌≤◌, ◌<◌, ℕ, List, Option, MatchBool}
 use Rattle.budget.specs.declared.budget.Budget.TheVariants.{Sets}
-use Rattle.ballot_reader.specs.Ballots.{BallotFile}
-use Rattle.ballot_reader.specs.Grammar.{ballots_of}
+use Rattle.ballots.specs.Ballots.{BallotFile}
+use Rattle.ballots.specs.Grammar.{ballots_of}
 use Rattle.assertion_file.specs.Content.{Content}
 use Rattle.assertion_file.specs.Text.{assertion_file_text}
 use Rattle.report.specs.Ends.{spent_sets_text}
@@ -19,7 +19,7 @@ use Rattle.search_commands.specs.Ends.{HasTieIn}
 use Rattle.search_commands.specs.Search as search
 use Rattle.search_commands.specs.Search.{full_count_text, has_cards, more_ballots, printed}
 
--- ---- how it ends, with so many sets and such a gap, where a best margin below `least` calls for a full count
+-- ---- how it ends, with this many sets and this gap, if a best margin below `least` calls for a full count
 
 -- with assertions of the fewest NENs if the best margin reaches that, as they are printed with such a plan
 pub record HasFewest (sets gap least : ℕ) (plan : Option PlanTerms) (ballots : BallotFile)

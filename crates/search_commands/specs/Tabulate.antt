@@ -3,8 +3,8 @@ use Rattle.std.specs.Prelude.{◌≡◌, ◌⊎◌, ◌≤◌, ℕ, List, [], �
 use Rattle.irv_base.specs.Tabulation.{HasNoTie}
 use Rattle.assertions.specs.Hardness.{first_bound}
 use Rattle.assertions.specs.Suffixes.{IsAlternative}
-use Rattle.ballot_reader.specs.Ballots.{BallotFile}
-use Rattle.ballot_reader.specs.Grammar.{ballots_of}
+use Rattle.ballots.specs.Ballots.{BallotFile}
+use Rattle.ballots.specs.Grammar.{ballots_of}
 use Rattle.report.specs.Ends.{spent_text}
 use Rattle.report.specs.Tabulations.{tabulation_text}
 use Rattle.cli_base.specs.Outcome.{Verdict, One}

@@ -4,7 +4,7 @@ use Rattle.std.specs.Fmt.{decimal}
 use Rattle.irv_base.specs.Candidates.{candidates}
 use Rattle.irv_base.specs.Names.{Id}
 use Rattle.trial.specs.Records.{trial_records}
-use Rattle.ballot_reader.specs.Ballots.{BallotFile, votes_with}
+use Rattle.ballots.specs.Ballots.{BallotFile, votes_with}
 use Rattle.assertion_file.specs.Content.{Content}
 use Rattle.assertion_file.specs.Ids.{id_of}
 use Rattle.cli_base.specs.Outcome.{Verdict, One}

@@ -14,7 +14,7 @@ ghost use Rattle.search_commands.specs.Search.{Finds, Searches, has_cards, print
 use crate::answers::{first_tie, spent, spent_sets};
 use crate::search_texts::full_count;
 use assertion_file::{AssertionFile, print_file};
-use ballot_reader::Votes;
+use ballots::Votes;
 use cli_base::{Answer, AnswerKind, Refusal, refuse_at};
 use command::{PlanTerms, SearchTask};
 use contest_search::{Found, find, planned};

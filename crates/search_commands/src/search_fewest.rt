@@ -16,7 +16,7 @@ use crate::answers::{first_tie, spent_sets};
 use crate::search::{has_cards, printed};
 use crate::search_texts::full_count;
 use assertion_file::{AssertionFile, print_file};
-use ballot_reader::Votes;
+use ballots::Votes;
 use cli_base::{Answer, AnswerKind, Refusal, refuse_at};
 use command::SearchFewestTask;
 use contest_search::{Found, find_fewest, with_own_margin};

@@ -13,7 +13,7 @@ ghost use Rattle.cli_base.specs.Due.{due, IsOneOrMemory};
 ghost use Rattle.cli_base.specs.Faults.{IsFaultTold};
 
 use crate::answers::{first_tie, spent};
-use ballot_reader::Votes;
+use ballots::Votes;
 use bound_search::{RaceFault, race};
 use cli_base::{Answer, AnswerKind, Refusal};
 use command::TabulateTask;

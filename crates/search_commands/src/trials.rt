@@ -7,7 +7,7 @@ ghost use Rattle.search_commands.specs.Trial.{contest_of, trial_candidates, Trie
 
 use crate::answers::{first_tie, spent, spent_sets};
 use crate::trial_texts::{contest_id, lines, trial_candidates};
-use ballot_reader::Votes;
+use ballots::Votes;
 use cli_base::{Answer, AnswerKind, Refusal};
 use command::TrialTask;
 use contest_search::{Found, find};

@@ -5,7 +5,7 @@ use Rattle.csv_rows.specs.Fields.{numbered_records}
 use Rattle.csv_rows.specs.Rows.{Fields}
 use Rattle.file_fault.specs.Refusals.{Refusal, and_then}
 use Rattle.irv_base.specs.Names.{Id, is_same}
-use Rattle.ballot_reader.specs.Grammar.{is_marked, ranking_of}
+use Rattle.ballots.specs.Grammar.{is_marked, ranking_of}
 use Rattle.manifest.specs.Cards.{Batches, cards_of, place_of}
 use Rattle.assorters.specs.declared.seen.Seen.{Seen}
 use Rattle.assorters.specs.declared.seen.Seen.TheVariants.{Found, Missing}

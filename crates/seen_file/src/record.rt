@@ -4,7 +4,7 @@ ghost use Rattle.std.specs.List.{list_any};
 ghost use Rattle.csv.specs.Records.{fields_of};
 ghost use Rattle.csv_rows.specs.Fields.{trimmed_fields};
 ghost use Rattle.irv_base.specs.declared.limits.TheConstants.{ROOM};
-ghost use Rattle.ballot_reader.specs.Grammar.{is_marked};
+ghost use Rattle.ballots.specs.Grammar.{is_marked};
 ghost use Rattle.manifest.specs.Cards.{cards_of};
 ghost use Rattle.seen_file.specs.Seen.{seen_in};
 ghost use Rattle.seen_file.specs.Reading.{card_of, entry_of, entry_of_card, is_missing, is_told, seen_of_record};
@@ -12,7 +12,7 @@ ghost use Rattle.seen_file.specs.Reading.{card_of, entry_of, entry_of_card, is_m
 use crate::fault::VRule;
 use crate::seen_cards::SeenCards;
 use assorters::Seen;
-use ballot_reader::ranking_of;
+use ballots::ranking_of;
 use csv::ByteRecord;
 use csv_rows::Fields;
 use irv_base::Name;

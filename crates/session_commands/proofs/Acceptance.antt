@@ -12,7 +12,7 @@ use Rattle.irv_base.proofs.Orders.{order_facts}
 use Rattle.assertions.specs.Suffixes.{orders_ending}
 use Rattle.assertions.proofs.Endings.{orders_ending-member}
 use Rattle.budget.specs.declared.budget.Budget.{Budget}
-use Rattle.ballot_reader.specs.Ballots.{BallotFile}
+use Rattle.ballots.specs.Ballots.{BallotFile}
 use Rattle.assertion_file.specs.Content.{Content}
 use Rattle.cover_checker.specs.Outcomes.{IsWinner}
 use Rattle.cover_checker.specs.Findings.{Answer, is_about, other_winner}

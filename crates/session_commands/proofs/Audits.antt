@@ -1,7 +1,7 @@
 -- An audit comes to one end.
 use Rattle.std.proofs.Common.{Bool, true, false, List, length, ℕ, refl, ap}
 use Rattle.budget.specs.declared.budget.Budget.{Budget}
-use Rattle.ballot_reader.specs.Ballots.{BallotFile}
+use Rattle.ballots.specs.Ballots.{BallotFile}
 use Rattle.manifest.specs.Cards.{cards_of}
 use Rattle.manifest.specs.Linked.{linked_of}
 use Rattle.assertion_file.specs.Content.{Content as FileContent, margins_of}

@@ -3,7 +3,7 @@ use Rattle.std.proofs.Common.{◌≡◌, ℕ, ◌≤◌, true, ◌&&◌, List, [
 use Rattle.std.proofs.lemmas.Bool.{and_parts}
 use Rattle.irv_base.specs.Tabulation.{least}
 use Rattle.budget.specs.declared.budget.Budget.{Budget}
-use Rattle.ballot_reader.specs.Ballots.{BallotFile}
+use Rattle.ballots.specs.Ballots.{BallotFile}
 use Rattle.assertions.specs.declared.assertion.Claim.{Claim}
 use Rattle.assertion_file.specs.Content.{Content, candidate_count, IsMargin, IsSoundClaim}
 use Rattle.cover_checker.specs.Findings.{Answer, is_about, smallest_margin, other_winner, other_margin, uncovered, other_smallest}

@@ -1,7 +1,7 @@
 -- An opening comes to one end.
 use Rattle.std.proofs.Common.{◌≡◌, Bool, true, false, MatchBool, refl, sym, ap, ◌∙◌}
-use Rattle.ballot_reader.specs.Ballots.{BallotFile}
-use Rattle.ballot_reader.specs.Grammar.{ballots_of}
+use Rattle.ballots.specs.Ballots.{BallotFile}
+use Rattle.ballots.specs.Grammar.{ballots_of}
 use Rattle.manifest.specs.Cards.{Batches}
 use Rattle.assertion_file.specs.Content.{Content as FileContent}
 use Rattle.assertion_file.specs.Reading.{assertion_file_of}

@@ -5,7 +5,7 @@ use Rattle.irv_base.specs.Orders.{is_order}
 use Rattle.irv_base.specs.Tabulation.{is_tabulated}
 use Rattle.assertions.specs.Suffixes.{orders_ending}
 use Rattle.budget.specs.declared.budget.Budget.{Budget}
-use Rattle.ballot_reader.specs.Ballots.{BallotFile}
+use Rattle.ballots.specs.Ballots.{BallotFile}
 use Rattle.assertion_file.specs.Content.{Content}
 use Rattle.cover_checker.specs.Findings.{is_about}
 use Rattle.cover_checker.specs.Checks.{findings}

@@ -1,6 +1,6 @@
 -- `audit SESSION BALLOTS MANIFEST ASSERTIONS SEEN`: the session goes on by a round.
 use Rattle.std.specs.Prelude.{ℕ, List, [], ◌∷◌, length, Result}
-use Rattle.ballot_reader.specs.Ballots.{BallotFile}
+use Rattle.ballots.specs.Ballots.{BallotFile}
 use Rattle.manifest.specs.Cards.{Batches, cards_of}
 use Rattle.manifest.specs.Linked.{linked_of}
 use Rattle.assertion_file.specs.Content.{Content as FileContent, margins_of}

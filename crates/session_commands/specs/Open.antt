@@ -2,8 +2,8 @@
 use Rattle.std.specs.Prelude.{◌≡◌, ℕ, List, [], ◌∷◌, length}
 use Rattle.std.specs.Bool.{MatchBool}
 use Rattle.sha2.specs.Sha256.{sha256}
-use Rattle.ballot_reader.specs.Ballots.{BallotFile}
-use Rattle.ballot_reader.specs.Grammar.{ballots_of}
+use Rattle.ballots.specs.Ballots.{BallotFile}
+use Rattle.ballots.specs.Grammar.{ballots_of}
 use Rattle.manifest.specs.Cards.{Batches, cards_of}
 use Rattle.assertion_file.specs.Content.{Content as FileContent}
 use Rattle.assertion_file.specs.Reading.{assertion_file_of}

@@ -6,7 +6,7 @@ ghost use Rattle.check_command.specs.Check.{Checks};
 ghost use Rattle.session_commands.specs.Accepted.{is_accepted};
 
 use assertion_file::AssertionFile;
-use ballot_reader::Ballots;
+use ballots::Ballots;
 use budget::Budget;
 use check_command::check::check;
 use cli_base::{Answer, AnswerKind, Refusal};

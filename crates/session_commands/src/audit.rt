@@ -14,7 +14,7 @@ ghost use Rattle.session_rounds.specs.Rounds.{MayGoOn};
 use crate::accepted::unless_accepted;
 use crate::same::same_assertions;
 use assertion_file::AssertionFile;
-use ballot_reader::Ballots;
+use ballots::Ballots;
 use cli_base::{Answer, Refusal};
 use command::AuditTask;
 use desk::Desk;

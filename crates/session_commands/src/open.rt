@@ -13,7 +13,7 @@ ghost use Rattle.session_commands.specs.Open.{Opens, after_ballots, after_manife
 
 use crate::accepted::unless_accepted;
 use assertion_file::AssertionFile;
-use ballot_reader::Ballots;
+use ballots::Ballots;
 use cli_base::{Answer, AnswerKind, Refusal};
 use command::OpenTask;
 use desk::Desk;

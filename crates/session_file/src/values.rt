@@ -18,13 +18,13 @@ pub fn digest_value(alloc: Global, digest: &[u8; 32]) -> Result<Value, AllocErro
     Ok(Value::String(hex::encode(alloc, digest.as_slice())?))
 }
 
-/// The margins of the claims, as an array of numbers.
-pub fn margins_value(alloc: Global, margins: &[u32]) -> Result<Value, AllocError>
-    ensures { IfOk result (λ v. view v ≡ numbers_value margins.now) }
+/// The numbers, as an array.
+pub fn numbers_value(alloc: Global, numbers: &[u32]) -> Result<Value, AllocError>
+    ensures { IfOk result (λ v. view v ≡ numbers_value numbers.now) }
 {
     let mut values = Vec::new(alloc);
-    for margin in margins {
-        values.push(Value::from(*margin))?;
+    for number in numbers {
+        values.push(Value::from(*number))?;
     }
     Ok(Value::Array(values))
 }
@@ -44,7 +44,8 @@ fn risks_value(alloc: Global, risks: &[u64]) -> Result<Value, AllocError>
 fn counts_value(alloc: Global, counts: &Counts) -> Result<Value, AllocError>
     ensures { IfOk result (λ v. view v ≡ counts_value counts.now) }
 {
-    json!(in alloc; [counts.n0, counts.n1, counts.n2, counts.n3, counts.n4])
+    let numbers = [counts.n0, counts.n1, counts.n2, counts.n3, counts.n4];
+    numbers_value(alloc, numbers.as_slice())
 }
 
 // The counts of each claim, as an array of arrays.

@@ -2,8 +2,8 @@
 use Rattle.std.specs.Prelude.{◌≡◌, ◌<◌, ◌≤◌, ℕ, nat_le, Bool, true, false, if◌then◌else◌, List, length, map, Option, None, Some, ok_or, Result, Ok, Err}
 use Rattle.irv_base.specs.Names.{Id}
 use Rattle.irv_base.specs.declared.limits.TheConstants.{MOST_DRAWS}
-use Rattle.ballot_reader.specs.Ballots.{BallotFile}
-use Rattle.ballot_reader.specs.Grammar.{ballots_of}
+use Rattle.ballots.specs.Ballots.{BallotFile}
+use Rattle.ballots.specs.Grammar.{ballots_of}
 use Rattle.manifest.specs.Cards.{Batches}
 use Rattle.manifest.specs.declared.recorded.Recorded.{Recorded}
 use Rattle.seen_file.specs.Reading.{seen_of}
@@ -107,7 +107,7 @@ abbrev pub verdict_of : Result Content Verdict → Verdict
 verdict_of (Ok next) = session_answer next
 verdict_of (Err verdict) = verdict
 
--- ---- the session that goes on to so many draws; its file and the seen file have these names
+-- ---- the session that goes on to this many draws; its file and the seen file have these names
 
 module _ (name seen : List ℕ) (draws : ℕ) where
   -- each drawn card has to be seen, and then the counts of earlier rounds come out the same

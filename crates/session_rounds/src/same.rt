@@ -5,7 +5,7 @@ ghost use Rattle.input_files.specs.Judged.{IsJudged, IsStopped};
 ghost use Rattle.session_rounds.specs.Rounds.{same_ballots, same_manifest};
 
 use crate::digests::same_digest;
-use ballot_reader::Ballots;
+use ballots::Ballots;
 use cli_base::Refusal;
 use command::FileName;
 use input_files::{Cards, ballots_in, cards_for};

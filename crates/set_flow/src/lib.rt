@@ -2,12 +2,14 @@
 #![tactic(auto)]
 
 mod flow;
+mod levels;
 mod pouring;
 mod rising;
 mod room;
 mod searching;
 mod seen;
 mod steps;
+mod ways;
 
 pub use flow::Flow;
 pub use pouring::fill;

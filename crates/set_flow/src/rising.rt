@@ -13,9 +13,12 @@ ghost use Rattle.set_flow.specs.Seen.{AreLinked, AreLinks, IsUndone};
 ghost use Rattle.set_flow.specs.Searched.{IsWay};
 
 use crate::flow::Flow;
+use crate::levels::Levels;
 use crate::searching::{Search, search_all};
 use crate::seen::Seen;
 use crate::steps::Steps;
+use crate::ways::find_way;
+use indexmap::IndexSet;
 use irv_base::{CandSet, Candidate, Memory};
 use std::alloc::Global;
 
@@ -49,6 +52,35 @@ fn draw(flow: &mut Flow, seen: &Seen) -> Result<(), Memory>
     Ok(())
 }
 
+// Lets further units flow, each by steps to higher levels alone, until none can.
+fn draw_more<T: Steps>(
+    alloc: Global,
+    steps: &mut T,
+    n: u32,
+    all: CandSet,
+    flow: &mut Flow,
+    levels: &Levels,
+) -> Result<(), Memory>
+    requires size { n ≡ T.size steps.old }
+    requires some { 0 < n }
+    requires room { n ≤ ROOM }
+    requires all { all ≡ set_of (candidates n) }
+    ensures same { steps.new ≡ steps.old }
+    ensures flow { (winner floor : ℕ) (records : List (List ℕ)) (rooms : ℕ → ℕ → Room) → T.is_by steps.old rooms
+        → AreRooms n winner records floor rooms
+        → IsFlow n winner records floor (carried flow.old.kept)
+        → OnOk result (IsFlow n winner records floor (carried flow.new.kept)) }
+{
+    let mut dead = IndexSet::new(alloc);
+    for _unit in 0..u32::MAX {
+        match find_way(alloc, steps, n, all, flow, levels, &mut dead)? {
+            Some(way) => draw(flow, &way)?,
+            None => return Ok(()),
+        }
+    }
+    Err(Memory)
+}
+
 /// Lets units flow from nobody's set to that of all, by steps on and back, until none can. Answers the sets that a unit can come to then:
 /// they are a cut, and it can't go from them to another. More than `u32::MAX` units are want of memory.
 pub fn rise<T: Steps>(
@@ -76,7 +108,10 @@ pub fn rise<T: Steps>(
 {
     for _unit in 0..u32::MAX {
         match search_all(alloc, steps, n, all, flow)? {
-            Search::Reached(seen) => draw(flow, &seen)?,
+            Search::Reached(seen) => {
+                draw(flow, &seen)?;
+                draw_more(alloc, steps, n, all, flow, &Levels::of(alloc, seen)?)?;
+            }
             Search::Stuck(seen) => return Ok(seen),
         }
     }

@@ -22,8 +22,8 @@ pub enum Search {
     Stuck(Seen),
 }
 
-// The set with the candidate, or without one who is in it.
-fn turned(set: CandSet, c: Candidate) -> CandSet
+/// The set with the candidate, or without one who is in it.
+pub(crate) fn turned(set: CandSet, c: Candidate) -> CandSet
     ensures { result ≡ turned set c }
 {
     if set.has(c) {
@@ -60,8 +60,8 @@ fn can_go<T: Steps>(
     Ok(room.is_free(flow.over(set, c)))
 }
 
-// Puts the set that a unit can go to by this candidate from that at a place, if it wasn't seen. Answers whether it is that of all.
-fn look_by<T: Steps>(
+/// Puts the set that a unit can go to by this candidate from that at a place, if it wasn't seen. Answers whether it is that of all.
+pub(crate) fn look_by<T: Steps>(
     steps: &mut T,
     n: u32,
     all: CandSet,

@@ -44,7 +44,7 @@ fn order_in(
     }
 }
 
-/// What a search tells that started with this order, if more sets are needed than the budget has.
+/// What a search that started with this order says, if more sets are needed than the budget has.
 pub(crate) fn spent_from(start: &Best) -> SetsFault
     ensures { result ≡ SetsSpent start.now.order start.now.margin }
 {

@@ -54,7 +54,7 @@ fn row_of(n: u32, set: u32) -> u32
     }
 }
 
-// Of the two sets of a row, the one that has the candidate.
+// The one of a row's two sets that has the candidate.
 fn having(n: u32, row: u32, c: Candidate) -> u32
     requires few { n ≤ MOST_SUMMED }
     requires below { row < 2 ^ n }

@@ -1,7 +1,7 @@
 // The rows of tallies that are kept.
 //
 // When there are too many rows all of them are dropped: dropping the oldest would need an order that nothing else uses. The rows are in the order of
-// their sets, since whoever writes an assertion file chooses the sets that are asked for, and could make hashes of them collide.
+// their sets, since the author of an assertion file chooses the sets that are asked for, and could make hashes of them collide.
 ghost use Rattle.std.specs.Prelude.{◌≡◌, IfSome, OnErr};
 ghost use Rattle.set_tallies.specs.Bags.{Kept};
 ghost use Rattle.set_tallies.specs.Rows.{AreFew, AreRows, votes_of};

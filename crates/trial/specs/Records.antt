@@ -40,7 +40,7 @@ ranking_of choices = fold with_choice [] choices
 abbrev pub ballot : ℕ → ℕ → List ℕ
 ballot n state = ranking_of (chosen n (places_of n state) (next state))
 
--- ---- the records: so many ballots, one after the other
+-- ---- the records: this many ballots, one after the other
 
 abbrev pub ballots_from : ℕ → ℕ → ℕ → List (List ℕ)
 ballots_from n zero state = []

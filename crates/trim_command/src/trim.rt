@@ -1,7 +1,7 @@
 // `trim BALLOTS ASSERTIONS`: an assertion file that a check accepts, without the claims that can go.
 ghost use Rattle.std.specs.Prelude.{◌≡◌, ◌≤◌, Ok, Some};
 ghost use Rattle.desk.specs.Count.{Rose};
-ghost use Rattle.ballot_reader.specs.Ballots.{BallotFile, votes_of};
+ghost use Rattle.ballots.specs.Ballots.{BallotFile, votes_of};
 ghost use Rattle.assertion_file.specs.Content.{IsSound, candidate_count};
 ghost use Rattle.cover_checker.specs.Covers.{covered_is};
 ghost use Rattle.cover_checker.specs.Findings.{assertions_of};
@@ -16,7 +16,7 @@ ghost use Rattle.command.specs.Trim.{IsWithinLimits};
 ghost use Rattle.trim_command.specs.Trim.{Trims, after_ballots, script, trim_verdict};
 
 use assertion_file::{AssertionFile, print_file};
-use ballot_reader::Votes;
+use ballots::Votes;
 use budget::Budget;
 use check_command::check::{check, spent_answer, spent_sets_answer};
 use cli_base::{Answer, AnswerKind, Refusal};

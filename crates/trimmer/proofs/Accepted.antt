@@ -13,7 +13,7 @@ use Rattle.assertions.proofs.Alternatives.{some_alternative}
 use Rattle.assertions.proofs.Elections.{from_covers}
 use Rattle.assertions.proofs.Endings.{alternative-member}
 use Rattle.assertions.proofs.Lows.{low-refuter}
-use Rattle.ballot_reader.specs.Ballots.{BallotFile}
+use Rattle.ballots.specs.Ballots.{BallotFile}
 use Rattle.assertion_file.specs.Content.{Content, Plan, IsMargin, IsSound, IsSoundClaim, candidate_count}
 use Rattle.cover_checker.specs.Checks.{IsAnswer}
 use Rattle.cover_checker.specs.Draws.{HasCleanDraws, IsPlanOf, clean_draws_of}

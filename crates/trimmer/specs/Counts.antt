@@ -16,7 +16,7 @@ use Rattle.trimmer.specs.declared.known.Known.TheVariants.{Suffixes as KnownSuff
 use Rattle.trimmer.specs.declared.scan.Scan.{Scan}
 use Rattle.trimmer.specs.declared.scan.Scan.TheVariants.{Covered, Stands, Unclear}
 
--- for each alternative winner a walk comes to its end, and counts so many suffixes
+-- for each alternative winner a walk comes to its end, and counts this many suffixes
 abbrev pub AreCounts : ℕ → ℕ → ℕ → List Assertion → List ℕ → Type 0
 AreCounts nodes n winner list counts =
     (c : ℕ) → c < n → c ≢ winner →

@@ -5,7 +5,7 @@ use Rattle.budget.specs.declared.budget.Budget.TheVariants.{Nodes, Sets}
 use Rattle.assertions.specs.declared.assertion.Claim.{Claim}
 use Rattle.assertions.specs.Refutation.{covers}
 use Rattle.assertions.specs.Suffixes.{IsAlternative, factorial}
-use Rattle.ballot_reader.specs.Ballots.{BallotFile}
+use Rattle.ballots.specs.Ballots.{BallotFile}
 use Rattle.assertion_file.specs.Content.{Content, Plan, IsSound, candidate_count}
 use Rattle.assertion_file.specs.Text.{told_of}
 use Rattle.cover_checker.specs.Covers.{stands}
@@ -38,7 +38,7 @@ TrimmedIsAccepted =
     IsAnswer budget ballots file (Ok Accepted) → trimmed budget file ≡ Ok left →
     IsAnswer budget ballots left (Ok Accepted)
 
--- the claims are a part of those that were read, each with what was told of its draws, and all else is the same; only a file without an order
+-- the claims are a part of those that were read, each with what was said of its draws, and all else is the same; only a file without an order
 -- has another margin if its smallest has gone
 abbrev pub TrimmedIsPart : Type 0
 TrimmedIsPart =

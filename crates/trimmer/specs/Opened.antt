@@ -1,4 +1,4 @@
--- What opens where a claim is left out.
+-- What opens once a claim is removed.
 use Rattle.std.specs.Prelude.{ℕ, ◌+◌, nat_lt, if◌then◌else◌, Bool, true, false, not, ◌&&◌, ◌||◌, List, Option, Some, None, Result, Ok, Err}
 use Rattle.std.specs.List.{list_any}
 use Rattle.irv_base.specs.Candidates.{has, members}

@@ -3,7 +3,7 @@ use Rattle.std.specs.Prelude.{List, ◌++◌, map}
 use Rattle.assertions.specs.declared.assertion.Assertion.{Assertion}
 use Rattle.assertions.specs.declared.assertion.Claim.{Claim}
 
--- those that aren't tried yet, and those that stay of the ones behind them
+-- those that aren't tried yet, and those that stay of the ones after them
 pub record Left : Type 0 where
   pub untried : List Claim
   pub kept : List Claim

@@ -1,4 +1,4 @@
--- What more is reached once a claim is left out.
+-- What more is reached once a claim is removed.
 use Rattle.std.specs.Prelude.{◌≡◌, ◌≢◌, ◌⊎◌, ◌<◌, ◌≤◌, ℕ, false, List, ◌∷◌, ◌++◌, length, map, slice_index, Some, Ok, Contains, IsTrue, ⊤}
 use Rattle.irv_base.specs.Candidates.{has}
 use Rattle.assertions.specs.declared.assertion.Assertion.{Assertion}

@@ -61,7 +61,7 @@ module _ (budget : Budget) (file : Content) where
   tried earlier claim (Err fault) = Err fault
   tried earlier claim (Ok later) = unless_it_goes claim later (trial earlier (Ok later))
 
-  -- what is left of the later claims: each is tried after all that come behind it
+  -- what is left of the later claims: each is tried after all that come later
   abbrev pub left_of : List Claim → List Claim → Result (List Claim) TrimFault
   left_of earlier [] = Ok []
   left_of earlier (claim ∷ later) =

@@ -11,7 +11,7 @@ use crate::scan::{Scan, scanned};
 use budget::Budget;
 use irv_base::{Candidate, ROOM};
 
-/// How many suffixes count for each alternative winner, where the claims cover; they are the others, with none left out.
+/// How many suffixes count for each alternative winner, if the claims cover; they are the others, with none removed.
 pub fn counts_of(claims: &Without<'_>, winner: Candidate, nodes: u32) -> [u32; ROOM as usize]
     requires number { 1 ≤ claims.now.n }
     requires room { claims.now.n ≤ ROOM }

@@ -13,7 +13,7 @@ pub enum TrimFault {
     /// Whether the others cover without the claim with this number, from 1, isn't known: `last` is the least alternative winner
     /// for whom more suffixes count than the budget has. Of the claims for which that is so, it is the first that is tried.
     Spent { claim: u64, last: Candidate },
-    /// The same by sets: without the claim with this number more sets of candidates count than the budget has, which are so many.
+    /// The same by sets: without the claim with this number more sets of candidates count than the budget has, which is this many.
     SpentSets { claim: u64, sets: u32 },
     /// Memory could not be had.
     Memory,

@@ -1,4 +1,4 @@
-// The walk through what opens where a claim is left out.
+// The walk through what opens once a claim is removed.
 ghost use Rattle.std.specs.Prelude.{◌≡◌, ◌<◌, ◌≤◌, false, length, drop, MatchOption, IsTrue};
 ghost use Rattle.irv_base.specs.Suffixes.{is_suffix};
 ghost use Rattle.irv_base.specs.declared.limits.TheConstants.{ROOM};
@@ -38,7 +38,7 @@ fn counted(is_open: bool, count: u32, nodes: u32) -> Result<u32, Stop>
     }
 }
 
-/// A claim that is left out, and the others. Without a claim, the others alone.
+/// A claim that is removed, and the others. Without a claim, the others alone.
 #[derive(Drop)]
 pub struct Without<'a> {
     /// How many candidates the contest has.

@@ -12,7 +12,7 @@ use irv_base::{Candidate, ROOM, Suffix};
 /// What a scan finds.
 #[derive(Clone, Copy)]
 pub enum Scan {
-    /// The others cover, and so many suffixes count for each alternative winner.
+    /// The others cover, and this many suffixes count for each alternative winner.
     Covered([u32; ROOM as usize]),
     /// An order stands.
     Stands,

@@ -1,4 +1,4 @@
-// The sets that are reached once a claim is left out.
+// The sets that are reached once a claim is removed.
 ghost use Rattle.std.specs.Prelude.{◌≡◌, ◌<◌, ◌≤◌, ℕ, false, Contains, IsTrue, OnOk, IfErr};
 ghost use Rattle.irv_base.specs.Candidates.{has};
 ghost use Rattle.irv_base.specs.declared.limits.TheConstants.{ROOM};

@@ -1,5 +1,6 @@
 // Tests of files whose contests are all read.
-use ballot_reader::{BRule, BallotFault, Ballots, Ids, read_ballots, read_contests};
+use ballot_reader::{read_ballots, read_contests};
+use ballots::{BRule, BallotFault, Ballots, Ids};
 use irv_base::{Candidate, Name, Rankings};
 
 const TWO: &[u8] =

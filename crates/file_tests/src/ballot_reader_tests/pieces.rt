@@ -1,5 +1,6 @@
 // Tests of files whose votes are read in pieces: each file is cut at every place, and says what it says whole.
-use ballot_reader::{BallotFault, Ballots, Votes, VotesReader, read_ballots};
+use ballot_reader::{VotesReader, read_ballots};
+use ballots::{BallotFault, Ballots, Votes};
 use irv_tabulator::{TabFault, tabulate};
 use set_tallies::Counted;
 use std::thread::Threads;

@@ -1,5 +1,5 @@
 // Tests of rankings by the fields of a record.
-use ballot_reader::ranking_of;
+use ballots::ranking_of;
 use csv::ByteRecord;
 use csv_rows::{Fields, Rows};
 use irv_base::{Candidate, Name};

@@ -1,6 +1,7 @@
 // Tests of files that several workers read side by side: they say what they say to one worker.
 use super::pieces::is_same;
-use ballot_reader::{BRule, BallotFault, Votes, VotesReader, read_ballots};
+use ballot_reader::{VotesReader, read_ballots};
+use ballots::{BRule, BallotFault, Votes};
 use irv_base::Memory;
 use std::alloc::Global;
 use std::thread::Threads;

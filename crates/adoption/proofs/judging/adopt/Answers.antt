@@ -6,7 +6,7 @@ use Rattle.irv_base.specs.declared.limits.TheConstants.{MOST_RECORDS}
 use Rattle.set_tallies.specs.Bags.{IsOf}
 use Rattle.assertions.specs.Assertions.{is_proper, is_true}
 use Rattle.assertions.specs.Certificate.{claim_of}
-use Rattle.ballot_reader.specs.Ballots.{AreCandidates}
+use Rattle.ballots.specs.Ballots.{AreCandidates}
 use Rattle.assertion_file.specs.Content.{IsSound}
 use Rattle.claims_file.specs.Claimed.{Claimed}
 use Rattle.cover_checker.specs.Outcomes.{IsWinner}

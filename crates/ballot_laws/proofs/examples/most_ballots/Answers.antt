@@ -1,7 +1,7 @@
 use Rattle.std.proofs.Common.{Some, ap}
 use Rattle.std.specs.Prelude.{drop, if◌then◌else◌, nat_lt}
 use Rattle.irv_base.specs.declared.limits.TheConstants.{MOST_RECORDS}
-use Rattle.ballot_reader.specs.declared.fault.BRule.TheVariants.{B10}
+use Rattle.ballots.specs.declared.fault.BRule.TheVariants.{B10}
 use Rattle.ballot_laws.specs.Breaking.{ballot_rules, first_broken}
 use Rattle.ballot_laws.proofs.examples.most_ballots.Goals as goal
 

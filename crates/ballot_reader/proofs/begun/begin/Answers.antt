@@ -2,7 +2,7 @@ use Rattle.std.proofs.Common.{◌≡◌, ◌∙◌, ◌+◌, ◌++◌, ◌∷◌
 use Rattle.std.specs.Prelude.{option_copied}
 use Rattle.std.proofs.lemmas.Result.{err_from_is_err_and}
 use Rattle.csv_rows.specs.Rows.{Fields}
-use Rattle.ballot_reader.specs.Grammar.{Contest, asked_for, ballots_after, file_of, then_on}
+use Rattle.ballots.specs.Grammar.{Contest, asked_for, ballots_after, file_of, then_on}
 use Rattle.ballot_reader.proofs.Beginning.{says-ballots, wants-audited}
 use Rattle.ballot_reader.proofs.begun.begin.Goals as goal
 

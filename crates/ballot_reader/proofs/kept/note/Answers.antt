@@ -1,6 +1,6 @@
 use Rattle.std.proofs.Common.{length, refl, sym, subst}
 use Rattle.std.proofs.lemmas.Option.{slice_get_read}
-use Rattle.ballot_reader.specs.Noted.{AreNoted}
+use Rattle.ballot_ids.specs.Noted.{AreNoted}
 use Rattle.ballot_reader.proofs.Adding.{same_at}
 use Rattle.ballot_reader.proofs.kept.note.Goals as goal
 

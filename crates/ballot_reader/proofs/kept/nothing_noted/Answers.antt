@@ -1,7 +1,7 @@
 use Rattle.std.proofs.Common.{[], sym, subst, arith}
 use Rattle.std.specs.Prelude.{All}
 use Rattle.std.proofs.lemmas.List.Elements.{All-push}
-use Rattle.ballot_reader.specs.Noted.{AreNoted}
+use Rattle.ballot_ids.specs.Noted.{AreNoted}
 use Rattle.ballot_reader.proofs.kept.nothing_noted.Goals as goal
 
 pub loop-alloc-preserved : goal.loop-alloc-preserved

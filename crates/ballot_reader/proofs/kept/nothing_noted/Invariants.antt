@@ -1,6 +1,6 @@
 use Rattle.std.proofs.Common.{[], ◌≤◌, ◌-◌, length}
 use Rattle.std.specs.Prelude.{All}
-use Rattle.ballot_reader.specs.Noted.{AreNoted}
+use Rattle.ballot_ids.specs.Noted.{AreNoted}
 use Rattle.ballot_reader.proofs.kept.nothing_noted.Given as goal
 
 abbrev pub invariant-loop-alloc : goal.invariant-loop-alloc

@@ -2,7 +2,7 @@ use Rattle.std.proofs.Common.{◌∙◌, length, refl, sym, ap, subst, arith, in
 use Rattle.std.specs.List.{slice_get}
 use Rattle.std.proofs.lemmas.Bool.{cases_eq, false≢true}
 use Rattle.std.proofs.lemmas.Option.{slice_get_read, slice_get_within}
-use Rattle.ballot_reader.specs.Joined.{ArePagesApart}
+use Rattle.ballot_ids.specs.Joined.{ArePagesApart}
 use Rattle.ballot_reader.proofs.Adding.{same_at}
 use Rattle.ballot_reader.proofs.kept_parts.are_apart.Goals as goal
 

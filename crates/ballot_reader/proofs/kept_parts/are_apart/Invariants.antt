@@ -1,7 +1,7 @@
 use Rattle.std.proofs.Common.{◌≡◌, ◌<◌, ℕ, Some}
 use Rattle.std.specs.List.{slice_get}
-use Rattle.ballot_reader.specs.Joined.{ArePagesApart}
-use Rattle.ballot_reader.specs.declared.noted.Noted.{Noted}
+use Rattle.ballot_ids.specs.Joined.{ArePagesApart}
+use Rattle.ballot_ids.specs.declared.noted.Noted.{Noted}
 use Rattle.ballot_reader.proofs.kept_parts.are_apart.Given as goal
 
 abbrev pub invariant-loop-place : goal.invariant-loop-place

@@ -1,8 +1,8 @@
 use Rattle.std.proofs.Common.{◌+◌, ◌∙◌, length, refl, sym, subst, arith}
 use Rattle.std.proofs.lemmas.Option.{slice_get_read}
 use Rattle.ballot_reader.specs.Parts.{IsJoined}
-use Rattle.ballot_reader.specs.declared.noted.Noted.{Noted}
-use Rattle.ballot_reader.proofs.Ended.{got}
+use Rattle.ballot_ids.specs.declared.noted.Noted.{Noted}
+use Rattle.ballot_ids.proofs.IdBytes.{got}
 use Rattle.ballot_reader.proofs.PutBehind.{SoFarTogether, together-all, together-more, together-none}
 use Rattle.ballot_reader.proofs.kept_parts.join_all.Goals as goal
 

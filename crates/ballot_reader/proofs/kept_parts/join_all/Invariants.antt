@@ -1,5 +1,5 @@
 use Rattle.ballot_reader.specs.Parts.{IsJoined}
-use Rattle.ballot_reader.specs.declared.noted.Noted.{Noted}
+use Rattle.ballot_ids.specs.declared.noted.Noted.{Noted}
 use Rattle.ballot_reader.proofs.PutBehind.{SoFarTogether}
 use Rattle.ballot_reader.proofs.kept_parts.join_all.Given as goal
 

@@ -3,7 +3,7 @@ use Rattle.std.specs.Prelude.{Option}
 use Rattle.std.proofs.lemmas.Option.{slice_get_read}
 use Rattle.ballot_reader.specs.Kept.{KeptPart}
 use Rattle.ballot_reader.specs.Parts.{IsPutBehind, part_behind}
-use Rattle.ballot_reader.proofs.Ended.{got}
+use Rattle.ballot_ids.proofs.IdBytes.{got}
 use Rattle.ballot_reader.proofs.PutBehind.{SoFarTogether, together-all, together-more, together-none}
 use Rattle.ballot_reader.proofs.kept_parts.put_all.Goals as goal
 

@@ -1,5 +1,5 @@
 use Rattle.std.proofs.Common.{◌∙◌, ◌++◌, ◌∷◌, [], length, refl, sym, ap, arith, length-append}
-use Rattle.ballot_reader.specs.Grammar.{ballot_of}
+use Rattle.ballots.specs.Grammar.{ballot_of}
 use Rattle.ballot_reader.proofs.Adding.{each_counts_own, keeps_audited, length-met, length-parts}
 use Rattle.ballot_reader.proofs.Behind.{ballots-more}
 use Rattle.ballot_reader.proofs.read.add_ballots.Goals as goal

@@ -1,5 +1,5 @@
 use Rattle.std.proofs.Common.{List, length}
-use Rattle.ballot_reader.specs.Grammar.{Ballot}
+use Rattle.ballots.specs.Grammar.{Ballot}
 use Rattle.ballot_reader.specs.Kept.{IsKeptUpTo}
 use Rattle.ballot_reader.specs.declared.wanted.Wanted.{Wanted}
 use Rattle.ballot_reader.proofs.Behind.{BallotsSoFar}

@@ -1,6 +1,6 @@
 use Rattle.std.proofs.Common.{◌∙◌, ap}
 use Rattle.std.specs.Prelude.{position}
-use Rattle.ballot_reader.specs.Grammar.{has_id}
+use Rattle.ballots.specs.Grammar.{has_id}
 use Rattle.ballot_reader.proofs.Heads.{asked-none, asked-place}
 use Rattle.ballot_reader.proofs.read.asked_place.Goals as goal
 

@@ -1,5 +1,5 @@
 use Rattle.std.proofs.Common.{◌∙◌, ◌+◌, sym, ap}
-use Rattle.ballot_reader.specs.Grammar.{contest_of}
+use Rattle.ballots.specs.Grammar.{contest_of}
 use Rattle.ballot_reader.proofs.Contests.{contests-broken, contests-missing, contests-more}
 use Rattle.ballot_reader.proofs.read.contests_left.Goals as goal
 

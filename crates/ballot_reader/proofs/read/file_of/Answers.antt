@@ -1,7 +1,7 @@
 use Rattle.std.proofs.Common.{◌∙◌, refl, ap, eq-eqb}
 use Rattle.std.proofs.lemmas.Result.{IfOk-weaker}
 use Rattle.ballot_reader.proofs.Adding.{same_at, same_some}
-use Rattle.ballot_reader.specs.Grammar.{Contest, file_of}
+use Rattle.ballots.specs.Grammar.{Contest, file_of}
 use Rattle.ballot_reader.specs.declared.wanted.Wanted.TheVariants.{One}
 use Rattle.ballot_reader.specs.Kept.{KeptPart, file_with}
 use Rattle.ballot_reader.proofs.Ended.{are_ballots, file-is}

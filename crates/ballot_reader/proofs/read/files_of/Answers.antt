@@ -1,7 +1,7 @@
 use Rattle.std.proofs.Common.{◌≡◌, [], true, refl, sym, ap, subst, arith}
 use Rattle.std.specs.Vec.Iter.{into_iter_items}
 use Rattle.std.proofs.lemmas.List.{nil_from_length}
-use Rattle.ballot_reader.specs.Grammar.{file_of}
+use Rattle.ballots.specs.Grammar.{file_of}
 use Rattle.ballot_reader.specs.Kept.{IsKept, KeptPart}
 use Rattle.ballot_reader.specs.declared.wanted.Wanted.TheVariants.{All as EachContest}
 use Rattle.ballot_reader.proofs.Ended.{are_ballots, file-is}

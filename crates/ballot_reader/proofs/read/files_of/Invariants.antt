@@ -1,6 +1,6 @@
 use Rattle.std.proofs.Common.{List}
 use Rattle.std.specs.Vec.Iter.{into_iter_items}
-use Rattle.ballot_reader.specs.Grammar.{Ballot}
+use Rattle.ballots.specs.Grammar.{Ballot}
 use Rattle.ballot_reader.specs.Kept.{IsKept}
 use Rattle.ballot_reader.specs.declared.wanted.Wanted.TheVariants.{All as EachContest}
 use Rattle.ballot_reader.proofs.Filed.{FiledSoFar}

@@ -4,7 +4,7 @@ use Rattle.std.proofs.lemmas.Result.{err_from_is_err_and}
 use Rattle.csv_rows.specs.Fields.{numbered}
 use Rattle.csv_rows.specs.Rows.{records_of}
 use Rattle.file_fault.specs.Refusals.{Refuses}
-use Rattle.ballot_reader.specs.Grammar.{ballots_from}
+use Rattle.ballots.specs.Grammar.{ballots_from}
 use Rattle.ballot_reader.proofs.read.read_ballots.Goals as goal
 
 pub returns-in_err-n-clause-refused : goal.returns-in_err-n-clause-refused

@@ -1,8 +1,8 @@
 use Rattle.std.proofs.Common.{◌∙◌, Err, length, not, refl, sym, ap}
 use Rattle.std.proofs.lemmas.Option.{slice_get_read}
 use Rattle.irv_base.proofs.Positions.{found_at, found_none}
-use Rattle.ballot_reader.specs.Grammar.{Contest, has_audited_size, unless_unsized}
-use Rattle.ballot_reader.specs.declared.fault.BRule.TheVariants.{B3}
+use Rattle.ballots.specs.Grammar.{Contest, has_audited_size, unless_unsized}
+use Rattle.ballots.specs.declared.fault.BRule.TheVariants.{B3}
 use Rattle.ballot_reader.proofs.read.see_all_audited.Goals as goal
 
 pub returns-in_default-clause-audited : goal.returns-in_default-clause-audited

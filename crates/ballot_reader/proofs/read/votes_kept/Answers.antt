@@ -2,8 +2,8 @@ use Rattle.std.proofs.Common.{◌≡◌, ◌<◌, ◌≤◌, ◌∙◌, false, L
 use Rattle.std.specs.Prelude.{All, IfSome}
 use Rattle.std.proofs.lemmas.Result.{IfOk-weaker}
 use Rattle.irv_base.specs.declared.limits.TheConstants.{MOST_RECORDS}
-use Rattle.ballot_reader.specs.Ballots.{votes_of, votes_with}
-use Rattle.ballot_reader.specs.Grammar.{Contest, file_of}
+use Rattle.ballots.specs.Ballots.{votes_of, votes_with}
+use Rattle.ballots.specs.Grammar.{Contest, file_of}
 use Rattle.ballot_reader.specs.Kept.{KeptPart}
 use Rattle.ballot_reader.specs.declared.wanted.Wanted.TheVariants.{VotesOf}
 use Rattle.ballot_reader.proofs.Adding.{own_counted, same_at}

@@ -5,7 +5,7 @@ use Rattle.csv.specs.Records.{fields_of}
 use Rattle.csv_rows.specs.Fields.{trimmed_fields}
 use Rattle.irv_base.specs.Names.{is_same}
 use Rattle.irv_base.proofs.Positions.{found_at, found_none}
-use Rattle.ballot_reader.specs.Ballots.{BallotFile}
+use Rattle.ballots.specs.Ballots.{BallotFile}
 use Rattle.contest_set.proofs.Records.{is-told, not-named, placed-by}
 use Rattle.contest_set.proofs.record.told_of.Goals as goal
 

@@ -1,6 +1,6 @@
 use Rattle.std.proofs.Common.{ℕ, List, ap, subst, sym, ◌∙◌}
 use Rattle.std.proofs.lemmas.Result.{err_from_is_err_and}
-use Rattle.ballot_reader.specs.Grammar.{contests_of}
+use Rattle.ballots.specs.Grammar.{contests_of}
 use Rattle.desk.specs.Count.{Rose}
 use Rattle.cli_base.specs.Due.{due}
 use Rattle.cli_base.specs.Script.{ByDesk, Runs}

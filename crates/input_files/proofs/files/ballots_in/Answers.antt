@@ -1,4 +1,4 @@
-use Rattle.ballot_reader.specs.Faults.{rule_name}
+use Rattle.ballots.specs.Faults.{rule_name}
 use Rattle.input_files.proofs.Judging.{refused_for}
 use Rattle.input_files.proofs.files.ballots_in.Goals as goal
 

@@ -3,8 +3,8 @@ use Rattle.std.specs.Prelude.{option_copied}
 use Rattle.irv_base.specs.Names.{Id}
 use Rattle.desk.specs.Count.{Rose}
 use Rattle.file_fault.specs.Refusals.{Refuses}
-use Rattle.ballot_reader.specs.Faults.{rule_name}
-use Rattle.ballot_reader.specs.Grammar.{ballots_of}
+use Rattle.ballots.specs.Faults.{rule_name}
+use Rattle.ballots.specs.Grammar.{ballots_of}
 use Rattle.cli_base.specs.Script.{Bytes, ByDesk}
 use Rattle.input_files.specs.Judged.{told}
 use Rattle.input_files.specs.Refusals.{refused_ballots}

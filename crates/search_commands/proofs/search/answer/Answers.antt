@@ -1,7 +1,7 @@
 use Rattle.std.proofs.Common.{Option, Err, subst}
 use Rattle.std.proofs.lemmas.Result.{err_from_is_err_and}
 use Rattle.irv_base.specs.Names.{Id}
-use Rattle.ballot_reader.specs.Ballots.{votes_of}
+use Rattle.ballots.specs.Ballots.{votes_of}
 use Rattle.desk.specs.Count.{Rose}
 use Rattle.cli_base.specs.Due.{due, IsOneOrMemory}
 use Rattle.cli_base.specs.Script.{ByDesk, Ends}

@@ -1,5 +1,5 @@
 use Rattle.std.proofs.Common.{subst}
-use Rattle.ballot_reader.specs.Ballots.{BallotFile, votes_of}
+use Rattle.ballots.specs.Ballots.{BallotFile, votes_of}
 use Rattle.cli_base.specs.Due.{due, IsOneOrMemory}
 use Rattle.cli_base.proofs.Ended.{told_among}
 use Rattle.check_command.specs.Check.{Checks}

@@ -2,7 +2,7 @@ use Rattle.std.proofs.Common.{ℕ, List, Option, ap, subst, sym, ◌∙◌}
 use Rattle.desk.specs.Count.{Rose}
 use Rattle.sha2.specs.Sha256.{sha256}
 use Rattle.irv_base.specs.Names.{Id}
-use Rattle.ballot_reader.specs.Grammar.{ballots_of}
+use Rattle.ballots.specs.Grammar.{ballots_of}
 use Rattle.cli_base.specs.Due.{due}
 use Rattle.cli_base.specs.Script.{ByDesk, Runs}
 use Rattle.cli_base.proofs.Steps.{accounted_on}

@@ -1,5 +1,5 @@
 use Rattle.std.proofs.Common.{Some, ap, subst, sym, ◌∙◌}
-use Rattle.ballot_reader.specs.Grammar.{ballots_of}
+use Rattle.ballots.specs.Grammar.{ballots_of}
 use Rattle.input_files.specs.Refusals.{refused_ballots}
 use Rattle.cli_base.specs.Due.{due_refusal}
 use Rattle.std.proofs.lemmas.Result.{err_from_is_err_and}

@@ -1,5 +1,5 @@
 use Rattle.std.proofs.Common.{◌≡◌, ℕ, List, rules, ap, sym, ◌∙◌, subst}
-use Rattle.ballot_reader.specs.Ballots.{votes_of}
+use Rattle.ballots.specs.Ballots.{votes_of}
 use Rattle.assertion_file.specs.Reading.{assertion_file_of}
 use Rattle.assertion_file.proofs.SoundFiles.{read_is_sound}
 use Rattle.cli_base.specs.Due.{due, IsOneOrMemory}

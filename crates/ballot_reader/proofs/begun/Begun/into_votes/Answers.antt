@@ -1,7 +1,7 @@
 use Rattle.std.proofs.Common.{sym, subst}
 use Rattle.std.proofs.lemmas.Result.{IfOk-weaker}
 use Rattle.ballot_reader.specs.Begun.{HasBegun}
-use Rattle.ballot_reader.specs.Grammar.{file_of}
+use Rattle.ballots.specs.Grammar.{file_of}
 use Rattle.ballot_reader.proofs.Beginning.{read-all}
 use Rattle.ballot_reader.proofs.begun.Begun.into_votes.Goals as goal
 

@@ -3,11 +3,11 @@ use Rattle.std.specs.List.{slice_get}
 use Rattle.std.proofs.lemmas.Bool.{not-true}
 use Rattle.std.proofs.lemmas.Option.{slice_get_read}
 use Rattle.irv_base.specs.declared.limits.TheConstants.{MOST_RECORDS}
-use Rattle.ballot_reader.specs.Grammar.{Ballot, ballot_ids, ranking_of}
+use Rattle.ballots.specs.Grammar.{Ballot, ballot_ids, ranking_of}
 use Rattle.ballot_reader.specs.Kept.{IsKept, KeptBallots}
 use Rattle.ballot_reader.proofs.Adding.{IsNew, Meets, again, kept-more, met-at, none_of, not-false, ranked, some_of}
-use Rattle.ballot_reader.proofs.Ended.{got}
-use Rattle.ballot_reader.proofs.Firsts.{is_ranking}
+use Rattle.ballot_ids.proofs.IdBytes.{got}
+use Rattle.ballots.proofs.Firsts.{is_ranking}
 use Rattle.ballot_reader.proofs.kept.Kept.add.Goals as goal
 
 pub returns-clause-kept : goal.returns-clause-kept

@@ -2,7 +2,7 @@ use Rattle.std.proofs.Common.{◌∙◌, ◌++◌, [], sym, ap}
 use Rattle.std.specs.Prelude.{option_copied}
 use Rattle.std.proofs.lemmas.List.{append-nil}
 use Rattle.std.proofs.lemmas.Result.{err_from_is_err_and}
-use Rattle.ballot_reader.specs.Grammar.{ballots_from}
+use Rattle.ballots.specs.Grammar.{ballots_from}
 use Rattle.ballot_reader.proofs.Behind.{same-refusal}
 use Rattle.ballot_reader.proofs.stage.Stage.votes.Goals as goal
 

@@ -5,7 +5,7 @@ use Rattle.csv_rows.specs.Fields.{numbered, numbered_records, without_mark}
 use Rattle.csv_rows.specs.Rows.{Fields, records_of}
 use Rattle.file_fault.specs.Refusals.{Refuses}
 use Rattle.irv_base.specs.Names.{Id}
-use Rattle.ballot_reader.specs.Grammar.{ballots_from, ballots_of}
+use Rattle.ballots.specs.Grammar.{ballots_from, ballots_of}
 use Rattle.ballot_reader.specs.Stages.{HasReached, HasTaken, VotesSoFar}
 use Rattle.ballot_reader.proofs.Behind.{same-refusal}
 use Rattle.ballot_reader.proofs.Staged.{has-read, refused-whole}

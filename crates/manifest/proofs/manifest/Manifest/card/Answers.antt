@@ -1,7 +1,7 @@
 use Rattle.std.proofs.Common.{◌∙◌, ◌-◌, ◌+◌, ◌<◌, ◌≤◌, [], Some, length, get_or, sym, ap, subst, arith}
 use Rattle.std.specs.List.{slice_get, sum}
 use Rattle.std.proofs.lemmas.Option.{get_or_from_slice_get}
-use Rattle.ballot_reader.proofs.IdBytes.{read_at}
+use Rattle.ballot_ids.proofs.IdBytes.{read_at}
 use Rattle.manifest.specs.Cards.{cards_of}
 use Rattle.manifest.proofs.CardAt.{card, card-at, first_first, length-cards, length-firsts}
 use Rattle.manifest.proofs.manifest.Manifest.card.Goals as goal

@@ -1,9 +1,9 @@
 use Rattle.std.proofs.Common.{◌∙◌, ◌<◌, length, get_or, sym, ap, arith}
 use Rattle.irv_base.specs.Names.{is_same}
 use Rattle.irv_base.proofs.Positions.{stands_nowhere}
-use Rattle.ballot_reader.proofs.Differing.{among-set}
+use Rattle.ballot_ids.proofs.Differing.{among-set}
 use Rattle.manifest.specs.Cards.{cards_of, place_of}
-use Rattle.ballot_reader.proofs.IdBytes.{read_at}
+use Rattle.ballot_ids.proofs.IdBytes.{read_at}
 use Rattle.manifest.proofs.CardAt.{first_at, length-firsts}
 use Rattle.manifest.proofs.Finding.{within_sum}
 use Rattle.manifest.proofs.Places.{place_none, place_absent, place_past, place_found}

@@ -1,0 +1,10 @@
+pub mod Differing
+pub mod SortedIds
+pub mod IdBytes
+pub mod Words
+pub mod Marks
+pub mod Noting
+pub mod OfBoth
+pub mod PagesLeft
+pub mod Halves
+pub mod Eight

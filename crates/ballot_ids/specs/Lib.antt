@@ -1,0 +1,3 @@
+pub mod Ids
+pub mod Joined
+pub mod Noted

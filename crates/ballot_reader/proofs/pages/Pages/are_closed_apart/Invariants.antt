@@ -1,5 +1,0 @@
-use Rattle.ballot_reader.proofs.PagesLeft.{LeftApart}
-use Rattle.ballot_reader.proofs.pages.Pages.are_closed_apart.Given as goal
-
-abbrev pub invariant-loop-number : goal.invariant-loop-number
-invariant-loop-number l = LeftApart l.self l.other l.number-iterator

@@ -1,5 +1,0 @@
-use Rattle.ballot_reader.proofs.Chosen.{RankedSoFar}
-use Rattle.ballot_reader.proofs.preferences.ranking_of.Given as goal
-
-abbrev pub invariant-loop-preference : goal.invariant-loop-preference
-invariant-loop-preference l = RankedSoFar l.candidates l.fn.preferences l.ranking l.preference-iterator

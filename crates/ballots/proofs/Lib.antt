@@ -1,0 +1,3 @@
+pub mod AllOf
+pub mod Chosen
+pub mod Firsts

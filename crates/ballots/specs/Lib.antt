@@ -1,0 +1,4 @@
+pub mod Ballots
+pub mod Grammar
+pub mod Faults
+pub mod Casts

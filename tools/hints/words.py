@@ -166,6 +166,8 @@ def option_in(word, rest, command, form):
         for flag in (other for other, option in form.options.items() if option.is_flag):
             if word.startswith("--") and any(name in other.options for other in forms()[command]):
                 raise Wrong(f"--{name} isn't an option of a line with --{flag}")
+        if word.startswith("--") and (other := next((one for one in forms()[command] if name in one.options), None)):
+            raise Wrong(f"--{name} is an option of {command} only with {told_flags(other) or told_files(other)}")
         bare = name.strip("-")
         every = list(dict.fromkeys([*form.options, *(other for one in forms()[command] for other in one.options)]))
         all_told = "its options are " + ", ".join(f"--{other}" for other in every) if every else "it has no options"
@@ -209,3 +211,8 @@ def split_names(files):
 
 def told_files(form):
     return " ".join(form.files) or "no file"
+
+
+def told_flags(form):
+    """The options of the form that have no value."""
+    return " ".join(f"--{name}" for name, option in form.options.items() if option.is_flag)

@@ -78,6 +78,6 @@ abbrev pub ContestsAreEach : Type 0
 ContestsAreEach =
     (bytes : List ℕ) → IsOfEach (ballots_of bytes) (contests_listed bytes) (contests_of bytes)
 
--- every contest that the file lists is found
+-- no contest that the file lists is missed
 abbrev pub NoneIsMissed : Type 0
 NoneIsMissed = (bytes : List ℕ) (at : ℕ) → contests_of bytes ≡ refused B5 at → ⊥

@@ -54,7 +54,7 @@ HasTaken reader bytes = IsAt reader bytes reader.stage
 abbrev pub LacksContests : Option Id → List Fields → Type 0
 LacksContests asked rows = (refusal : Refusal BRule) × (ballots_from asked rows ≡ Err refusal)
 
--- Only these whole lines that can be read are held: before the contests are read, lines that would be refused as a file, or many lines;
+-- Of the whole lines that can be read, only these are held: before the contests are read, lines that would be refused as a file, or many lines;
 -- after that, a few lines, which wait for more. If the file is refused, this says nothing.
 abbrev pub HoldsLittle : Option Id → ℕ → List ℕ → Stage → Type 0
 HoldsLittle asked holds lines Contests =

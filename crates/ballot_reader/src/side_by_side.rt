@@ -27,7 +27,7 @@ use std::alloc::Global;
 use std::thread;
 use std::thread::Threads;
 
-// Fewer bytes of lines are read sooner than a thread is started for them.
+// Reading fewer bytes of lines than this takes less time than starting a thread for them.
 const FEWEST_BYTES: usize = 128 << 10;
 
 // What is kept of the ballots in these lines, as if none came before them. It is nothing if a record is refused.

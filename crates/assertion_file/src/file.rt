@@ -10,7 +10,7 @@ use assertions::Claim;
 use irv_base::{Candidate, Name, Order};
 use std::marker::Model;
 
-/// The values that make up an assertion file. Nothing says that they are those of a file.
+/// The values that make up an assertion file. The type doesn't say that they are those of a file.
 ///
 /// To a contract they are the record of these values, with a list for each list.
 #[derive(Drop)]

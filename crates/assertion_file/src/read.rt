@@ -1,6 +1,6 @@
 // Reads an assertion file.
 //
-// The bytes are first assumed to be written by `print_file`. The guess is printed again, and if that gives the same bytes, it is right.
+// The bytes are first assumed to be what `print_file` wrote. The guess is printed again, and if that gives the same bytes, it is right.
 // Bytes in a different layout, and all bytes that are refused, are judged from the tree of their values, which takes seventeen times as
 // much memory as the text. So there is one grammar, and no refusal comes from the quick way.
 ghost use Rattle.std.specs.Prelude.{◌≡◌, ◌<◌, ◌≤◌, ◌&&◌, false, length, map, option_map, Ok, IfOk, IfErr, IfSome, IfNone, IsTrue};

@@ -3,7 +3,7 @@ ghost use Rattle.std.specs.Prelude.{◌≡◌, ◌*◌, ◌/◌, ◌<◌, ◌≤
 
 use crate::limits::ONE;
 
-// A factor is kept in units of 2^-64, so that a division by that many units is free.
+// A factor is kept in units of 2^-64, so that the division by 2^64 is free.
 const UNITS: u128 = 18_446_744_073_709_551_616;
 
 /// A factor below one, as a fraction.

@@ -36,12 +36,12 @@ pub fn at_most_one()
     ensures { AtMostOneLaw }
 {}
 
-/// The printed risk is at least the exact one, or at least one if the exact one is above that.
+/// The printed risk is at least the exact risk, or at least one if the exact risk is above one.
 pub fn not_below()
     ensures { NotBelowLaw }
 {}
 
-/// The printed risk exceeds the exact one, or one if that is less, by at most one unit for each draw, times the factors of the draws with d
+/// The printed risk exceeds the smaller of the exact risk and one by at most one unit for each draw, times the factors of the draws with d
 /// of 0 or 1.
 pub fn not_far_above()
     ensures { NotFarAboveLaw }

@@ -22,7 +22,7 @@ const NOT_FOUND: u8 = 0;
 
 /// A function of rankings whose values are 0, 1 and 2: a closure that may be called on every ranking.
 ///
-/// What its calls say holds of each function of rankings that the closure computes.
+/// What its calls say is true of each function of rankings that the closure computes.
 #[derive(Drop)]
 pub struct Assorter<F: Fn(&Ranking) -> u8> {
     closure: F,

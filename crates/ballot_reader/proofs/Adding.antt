@@ -142,7 +142,7 @@ ranked contests ballots at row k id preferences contest m h o e =
     judged contests ballots at row k id preferences contest m
     ∙ ap (λ b. if b then Err B9 else ballot_with at contest.id id (ranking_of contest.candidates preferences)) h ∙ ap (ballot_with at contest.id id) e
 
--- ---- what is kept of it
+-- ---- the data kept for it
 
 pub same_some : {X : Type 0} (o : Option X) (x y : X) → o ≡ Some x → o ≡ Some y → x ≡ y
 same_some o x y g h = let e = sym g ∙ h in cc

@@ -13,7 +13,7 @@ use Rattle.ballot_reader.specs.declared.wanted.Wanted.{Wanted}
 
 -- ---- ballot by ballot
 
--- the records after these ballots are other ballots, and then those from number at on; this is kept of the ballots
+-- the records after these ballots are other ballots, and then those from number at on; this is the data kept for the ballots
 pub record BallotsSoFar (contests : List Contest) (wanted : Wanted) (earlier : List Ballot) (first : ℕ) (rows : List Fields) (ballots : List Ballot) (at : ℕ)
     (rest : List Fields) (kept : KeptBallots) : Type 0 where
   pub split : ballots_after contests earlier first rows ≡ ballots_after contests ballots at rest

@@ -1,4 +1,4 @@
--- Contests that are taken one by one with what is kept of their ballots.
+-- Contests that are taken one by one with the data kept for their ballots.
 use Rattle.std.proofs.Common.{true, ◌≡◌, ◌+◌, ◌∙◌, ◌++◌, ◌∷◌, [], ℕ, List, Option, Some, None, length, map, refl, sym, ap, subst, append_assoc}
 use Rattle.std.specs.List.{slice_get}
 use Rattle.std.proofs.lemmas.List.{append-nil, map-append}
@@ -8,7 +8,7 @@ use Rattle.ballot_reader.specs.Kept.{IsKept, KeptBallots, KeptPart, file_with, p
 use Rattle.ballot_reader.specs.declared.wanted.Wanted.TheVariants.{All as EachContest}
 use Rattle.ballot_reader.proofs.Ended.{file-is}
 
--- the contests are those whose files have been made, followed by those that are left, with what is kept of them
+-- the contests are those whose files have been made, followed by those that are left, with the data kept for them
 pub record FiledSoFar (contests : List Contest) (ballots : List Ballot) (left : List Contest) (parts : List (Option KeptPart))
     (files : List BallotFile) : Type 0 where
   pub earlier : List Contest

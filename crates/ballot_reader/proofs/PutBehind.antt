@@ -1,4 +1,4 @@
--- What is kept of ballots that are read on their own, put after what is kept of others.
+-- The data kept for ballots that are read on their own, put after the data kept for others.
 use Rattle.std.proofs.Common.{◌≡◌, ◌≢◌, ◌<◌, ◌≤◌, ◌+◌, ◌∙◌, ◌++◌, ◌∷◌, ◌||◌, [], ℕ, zero, suc, Bool, true, false, not, List, Option, Some, None, length, set, refl, sym, ap, ap₂, subst, arith, inl, inr, length-append, length-set}
 use Rattle.std.specs.Prelude.{All, IsTrue, if◌then◌else◌}
 use Rattle.std.specs.List.{slice_get}

@@ -8,7 +8,7 @@ use Rattle.ballot_reader.specs.Kept.{IsKeptUpTo, KeptBallots, contest_ids}
 use Rattle.ballots.specs.declared.limits.TheConstants.{MOST_CONTESTS}
 use Rattle.ballot_reader.specs.declared.wanted.Wanted.TheVariants.{VotesOf}
 
--- the contests of a file, the place of the one whose votes are kept, what is kept of the ballots, and the number of the record that comes next
+-- the contests of a file, the place of the one whose votes are kept, the data kept for the ballots, and the number of the record that comes next
 pub record BegunFile : Type 0 where
   pub contests : List Contest
   pub audited : ℕ

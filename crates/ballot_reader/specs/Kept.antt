@@ -1,4 +1,4 @@
--- What is kept of ballots that are read record by record.
+-- The data kept for ballots that are read record by record.
 use Rattle.std.specs.Prelude.{◌≡◌, ◌<◌, ◌≤◌, ◌+◌, ◌++◌, ◌∷◌, [], ◌==◌, ℕ, Bool, true, false, List, map, length, nat_lt, All, IsTrue, IfSome, Option, Some, None, option_map, Result, Err, if◌then◌else◌}
 use Rattle.std.specs.List.{slice_get}
 use Rattle.irv_base.specs.Candidates.{is_distinct}
@@ -18,7 +18,7 @@ use Rattle.ballot_reader.specs.declared.wanted.Wanted.TheVariants.{One, VotesOf,
 abbrev pub contest_ids : List Contest → List Id
 contest_ids contests = map (λ contest. contest.id) contests
 
--- ---- what is kept of one contest
+-- ---- the data kept for one contest
 
 -- where its ballots come from: the id of each, and the number of its record
 pub record KeptOrigins : Type 0 where
@@ -99,7 +99,7 @@ pub record AreApart (ballots : List Ballot) (contest : Contest) : Type 0 where
       (rankings_in contest.id ballots)
   pub distinct : All (λ ranking. IsTrue (is_distinct ranking)) (rankings_in contest.id ballots)
 
--- ---- what is kept of all
+-- ---- the data kept for all
 
 -- the contest at a place is one of those that are asked for
 abbrev pub is_wanted : Wanted → ℕ → Bool
@@ -134,7 +134,7 @@ pub record KeptBallots : Type 0 where
   pub parts : List (Option KeptPart)
   pub count : ℕ
 
--- this is what is kept of these ballots
+-- this is the data kept for these ballots
 pub record IsKept
     (contests : List Contest) (wanted : Wanted) (ballots : List Ballot)
     (kept : KeptBallots) : Type 0 where
@@ -147,7 +147,7 @@ pub record IsKept
 
 -- ---- the size of contests
 
--- each contest that is asked for has few enough and enough candidates to be audited
+-- each contest that is asked for has neither too many nor too few candidates to be audited
 abbrev pub WantsAudited : List Contest → Wanted → Type 0
 WantsAudited contests wanted =
     (place : ℕ) (contest : Contest) → slice_get contests place ≡ Some contest →
@@ -165,7 +165,7 @@ EachCountsOwn contests parts =
     (place : ℕ) (contest : Contest) (part : KeptPart) → slice_get contests place ≡ Some contest →
     slice_get parts place ≡ Some (Some part) → CountsOwn contest part
 
--- this is what is kept of these ballots, and the record number at comes next; the contests that are asked for can be audited
+-- this is the data kept for these ballots, and the record number at comes next; the contests that are asked for can be audited
 pub record IsKeptUpTo
     (contests : List Contest) (wanted : Wanted) (ballots : List Ballot) (at : ℕ)
     (kept : KeptBallots) : Type 0 where

@@ -24,14 +24,14 @@ pub record CanBeRead (contests : List Contest) (audited : ℕ) : Type 0 where
   pub differ : IsTrue (all_differ (contest_ids contests))
   pub sized : WantsAudited contests (VotesOf audited)
 
--- these records are ballots, if nothing comes before them, and this is kept of them
+-- these records are ballots, if nothing comes before them, and this is the data kept for them
 abbrev pub IsReadAlone : List Contest → Wanted → List Fields → KeptBallots → Type 0
 IsReadAlone contests wanted rows kept =
     (ballots : List Ballot)
     × (ballots_after contests [] (2 + length contests) rows ≡ Ok ballots)
     × IsKept contests wanted ballots kept
 
--- after these ballots, the records from number at on are ballots, and this is kept of all of them, up to record next
+-- after these ballots, the records from number at on are ballots, and this is the data kept for all of them, up to record next
 abbrev pub IsReadBehind :
     List Contest → Wanted → List Ballot → ℕ → List Fields → ℕ → KeptBallots → Type 0
 IsReadBehind contests wanted earlier at rows next kept =
@@ -61,7 +61,7 @@ IsAnswer contests audited first rows before after answer =
     IfOk answer (λ next. ComeBehind contests (VotesOf audited) first rows before next after)
     × IfErr answer (λ fault. IsRefusedBehind contests (VotesOf audited) first rows before fault)
 
--- this is what is kept of ballots that were read on their own, put after what was kept of others: if the others went up to a record, these
+-- this is the data kept for ballots that were read on their own, put after the data kept for others: if the others went up to a record, these
 -- come after them
 abbrev pub IsKeptBehind : KeptBallots → KeptBallots → KeptBallots → Type 0
 IsKeptBehind before part after =
@@ -89,7 +89,7 @@ AreAlike own its =
     (place : ℕ) (before part : Option KeptPart) → slice_get own place ≡ Some before →
     slice_get its place ≡ Some part → form_of part ≡ form_of before
 
--- what is kept of some ballots can be put after what is kept of others
+-- the data kept for some ballots can be put after the data kept for others
 pub record CanJoin (kept part : KeptBallots) : Type 0 where
   pub met_each : length part.met ≡ length kept.met
   pub part_each : length part.parts ≡ length kept.parts
@@ -120,7 +120,7 @@ abbrev pub with_rankings : KeptPart → List (List ℕ) → KeptPart
 with_rankings part rankings =
     record { origins = part.origins; counted = part.counted; rankings = part.rankings ++ rankings }
 
--- what is kept of more ballots of a contest, if their origin isn't kept, put after what is kept of others
+-- the data kept for more ballots of a contest, if their origin isn't kept, put after the data kept for others
 abbrev pub part_behind : Option KeptPart → Option KeptPart → Option KeptPart
 part_behind None before = before
 part_behind (Some part) before = option_map (λ own. with_rankings own part.rankings) before

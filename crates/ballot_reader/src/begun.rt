@@ -28,7 +28,7 @@ pub struct Begun {
     contests: Vec<Contest>,
     // The place of the contest whose votes are kept, from 0.
     audited: usize,
-    // What is kept of the ballots.
+    // The data kept for the ballots.
     kept: Kept,
     // The number of the record that comes next, from 1.
     at: u32,

@@ -1,4 +1,4 @@
-// What is kept of the ballots that have been read.
+// The data kept for the ballots that have been read.
 ghost use Rattle.std.specs.Prelude.{ℕ, ◌≡◌, ◌<◌, ◌++◌, ◌∷◌, [], All, List, Ok, Err, Some, None, IfOk, IfErr, IfSome, IsTrue, length, position, slice_get, slice_set, not, true, if◌then◌else◌};
 ghost use Rattle.irv_base.specs.Names.{Id, all_differ, is_among};
 ghost use Rattle.ballots.specs.Grammar.{Ballot, Contest as ContestRecord, ballot_for, ballot_in, ballot_of, has_id};
@@ -65,14 +65,14 @@ fn head_of<'r>(contests: &[Contest], fields: &mut Fields<'r>) -> Result<Head<'r>
     Ok(Head { contest, id })
 }
 
-/// What is kept of ballots: which ids have been met in each contest, the number of ballots, and a part for each contest that is asked for.
+/// The data kept for ballots: which ids have been met in each contest, the number of ballots, and a part for each contest that is asked for.
 ///
 /// To a contract it is these three.
 #[derive(Drop)]
 pub struct Kept {
     /// For each contest, which ids of its ballots have been met.
     pub met: Vec<Noted>,
-    /// For each contest, what is kept of its ballots, if they are asked for.
+    /// For each contest, the data kept for its ballots, if they are asked for.
     pub parts: Vec<Option<Part>>,
     /// The number of ballots in all contests.
     pub count: u32,
@@ -178,7 +178,7 @@ impl Kept {
         })
     }
 
-    /// Judges the record number `at`, which is a ballot's record with these fields, and keeps what must be kept of it.
+    /// Judges the record number `at`, which is a ballot's record with these fields, and keeps what it must of the ballot.
     pub fn add(
         &mut self,
         contests: &[Contest],

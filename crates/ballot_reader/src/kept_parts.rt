@@ -1,4 +1,4 @@
-// Joins what is kept of ballots that are read side by side.
+// Joins the data kept for ballots that are read side by side.
 ghost use Rattle.std.specs.Prelude.{◌≡◌, ◌<◌, ◌↔◌, Option, Some, OnOk, IsTrue, length, option_map, slice_get, slice_set};
 ghost use Rattle.ballot_ids.specs.Joined.{ArePagesApart};
 ghost use Rattle.ballot_reader.specs.Kept.{KeptPart};
@@ -120,7 +120,7 @@ impl Kept {
         self.met.iter().all(|met| met.elsewhere.is_empty())
     }
 
-    /// Whether what is kept of other ballots can be put after this. That needs three things. For each contest it is known that no id was
+    /// Whether the data kept for other ballots can be put after this. That needs three things. For each contest it is known that no id was
     /// met in both. For each contest, ballots are counted in both for the same number of candidates, or in neither. And there aren't too
     /// many ballots.
     pub fn can_join(&self, part: &Kept) -> bool
@@ -135,7 +135,7 @@ impl Kept {
         are_alike(&self.parts, &part.parts) && are_apart(&self.met, &part.met)
     }
 
-    /// Puts what is kept of ballots that were read on their own after what is kept of others. If ids and places are kept, it says nothing
+    /// Puts the data kept for ballots that were read on their own after the data kept for others. If ids and places are kept, it says nothing
     /// about them.
     pub fn join(&mut self, part: &Kept) -> Result<(), Memory>
         requires { CanJoin self.now part.now }

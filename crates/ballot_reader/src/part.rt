@@ -1,4 +1,4 @@
-// What is kept of the ballots of one contest.
+// The data kept for the ballots of one contest.
 ghost use Rattle.std.specs.Prelude.{ℕ, ◌≡◌, ◌<◌, ◌≤◌, ◌++◌, ◌∷◌, [], List, Option, Some, None, IfOk, IfSome, OnOk, IsTrue, is_some, length, option_map, slice_get, slice_set, if◌then◌else◌};
 ghost use Rattle.set_tallies.specs.declared.bag.TheConstants.{ALWAYS_SUMMED};
 ghost use Rattle.ballots.specs.Grammar.{has_audited_size, ranking_of};
@@ -53,7 +53,7 @@ impl Origins {
     }
 }
 
-/// What is kept of the ballots of a contest.
+/// The data kept for the ballots of a contest.
 ///
 /// To a contract it is where they come from, the number of candidates for which they are counted (if they are), and their rankings.
 #[derive(Drop)]

@@ -156,7 +156,7 @@ pub fn first_ballot(contests: &[Contest]) -> u32
     FIRST_CONTEST + contests.len() as u32
 }
 
-/// What is kept of the ballots in the remaining records.
+/// The data kept for the ballots in the remaining records.
 pub fn ballots_left(
     alloc: Global,
     contests: &[Contest],
@@ -218,7 +218,7 @@ fn ballots_with(alloc: Global, contest: Contest, part: Part) -> Result<Ballots, 
     Ok(Ballots::new(contest.id, candidates, rankings, ids, places))
 }
 
-// The contest at a place, with what is kept of its ballots.
+// The contest at a place, with the data kept for its ballots.
 fn taken(mut contests: Vec<Contest>, place: usize, mut kept: Kept) -> (Contest, Part)
     requires within { place < length contests.items }
     requires kept { (wanted : WantedContests) × IsTrue (is_wanted wanted place)

@@ -30,7 +30,7 @@ use std::thread::Threads;
 // Reading fewer bytes of lines than this takes less time than starting a thread for them.
 const FEWEST_BYTES: usize = 128 << 10;
 
-// What is kept of the ballots in these lines, as if none came before them. It is nothing if a record is refused.
+// The data kept for the ballots in these lines, as if none came before them. It is nothing if a record is refused.
 fn read_alone(
     alloc: Global,
     contests: &[Contest],

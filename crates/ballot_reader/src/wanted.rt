@@ -1,4 +1,4 @@
-// Which contests' ballots are kept, and what is kept of them.
+// Which contests' ballots are kept, and which data is kept for them.
 ghost use Rattle.std.specs.Prelude.{◌≡◌};
 ghost use Rattle.ballot_reader.specs.Kept.{is_wanted, keeps_origins};
 

@@ -85,7 +85,7 @@ fn is_candidate(candidates: &Listed, id: &[u8]) -> bool
     candidates.has(id)
 }
 
-/// Whether each of these preferences that isn't blank is one of the candidates, of whom there may be many.
+/// Whether each of these preferences that isn't blank is one of the candidates. There may be many candidates.
 pub fn are_candidates(candidates: &Listed, preferences: Fields<'_>) -> bool
     ensures { result ≡ is_some (ranking_of candidates.now preferences.entry) }
 {

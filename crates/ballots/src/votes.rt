@@ -51,7 +51,7 @@ impl Votes {
         Votes::of(contest, candidates, Cast::Listed(rankings))
     }
 
-    /// The same, where rankings may be counted.
+    /// The same, but the rankings may be counted.
     pub fn of(contest: Name, candidates: Vec<Name>, cast: Cast) -> Votes
         requires candidates { AreCandidates candidates.items }
         requires own { IfSome (counted_of cast) (λ n. n ≡ length candidates.items) }

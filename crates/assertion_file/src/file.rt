@@ -58,7 +58,7 @@ impl Model for Parts {
 /// place in the list of candidates, from 0. An order is one of all candidates, each assertion is a proper one among them, and each margin,
 /// of the file and of the claims, is 1 to the number of records. A plan is for at least as many cards as there are records and at most
 /// `MOST_CARDS`, with a gamma of 1 to `GREATEST_GAMMA` and a limit of 1 to `GREATEST_LIMIT`, and for each claim it has 1 to `MOST_DRAWS`
-/// draws, or none. A checker has to find out whether the file is true of any ballots.
+/// draws, or none. It is up to a checker to find out whether the file is true of any ballots.
 ///
 /// To a contract a file is the record of these values, with a list for each list.
 #[derive(Drop)]

@@ -5,7 +5,7 @@ ghost use Rattle.ballots.specs.declared.limits.TheConstants as limit;
 ghost use Rattle.ballot_reader.specs.declared.stage.TheConstants as stage;
 ghost use Rattle.ballot_reader.specs.declared.votes_reader.TheConstants as reader;
 
-/// If one contest and its ballots are spelled record by record, that spelling is read as them.
+/// The records that spell one contest and its ballots, record by record, are read as that contest and those ballots.
 pub fn what_is_spelled_is_read()
     ensures { WhatIsSpelledIsRead }
 {}

@@ -127,7 +127,7 @@ fn put_behind(
     add_in_order(contests, kept, first, lines)
 }
 
-// Keeps the ballots in the first of the lines, with this many workers. The first line is in the record number `first`. Meanwhile a further
+// Keeps the ballots in the front lines, the first of which is in the record number `first`, with this many workers. Meanwhile another
 // worker reads the lines after them, as if nothing came before them.
 #[cycle(behind)]
 fn read_both<R: Threads + Sync>(

@@ -124,7 +124,7 @@ pub struct Step {
 
 impl Stage {
     // Whether the available whole lines aren't read now. Ballots wait if there are no more than this many bytes, and contests wait if there
-    // are more than are looked at. It doesn't promise that any lines wait.
+    // are more than are looked at. There is no promise that any lines wait.
     fn waits(&self, pieces: &Pieces, holds: usize) -> bool
         ensures { IsTrue result → (asked : Option Id)
             → HoldsLittle asked holds pieces.now.lines self.now }

@@ -26,7 +26,7 @@ pub const SIDE_BY_SIDE: usize = 6 << 20;
 /// Reads the votes of a contest from a ballot file that comes in pieces, with one worker or several. It keeps the lines of the file that
 /// haven't been read yet: usually the last one, and with several workers up to `SIDE_BY_SIDE` bytes of whole lines.
 ///
-/// From the first lines that contain a double quote, or a byte EF that is no byte order mark at the front, it keeps everything that comes
+/// Once lines come with a double quote, or with a byte EF that is no byte order mark at the front, it keeps everything from those lines on
 /// and reads it at the end. It also does so if the contests are refused, if the contests and the lines that come in the same piece have
 /// more than `MOST_OF_CONTESTS` bytes, or if one line, or the lines in one piece together with what waits, have more bytes than `csv_rows`
 /// looks at (`MOST_AT_HAND`). Once a ballot is refused, nothing more is kept.

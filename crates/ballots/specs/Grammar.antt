@@ -39,7 +39,7 @@ pub record Contest : Type 0 where
 abbrev pub has_id : Id → Contest → Bool
 has_id id contest = is_same contest.id id
 
--- the first ids, this many, if there are that many
+-- this many ids from the front of the list, if there are that many
 abbrev pub listed : Option ℕ → List Id → Option (List Id)
 listed None ids = None
 listed (Some n) ids = if nat_le n (length ids) then Some (take n ids) else None

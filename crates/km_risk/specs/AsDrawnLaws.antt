@@ -6,7 +6,7 @@ use Rattle.km_risk.specs.Exact.{is_within, millionths_in_one}
 use Rattle.km_risk.specs.Factor.{threshold}
 use Rattle.km_risk.specs.Reach.{sequences, some_prefix}
 
--- a risk up to the ceiling is the risk of the draws: it isn't below it and is near it
+-- a risk up to the ceiling is that of the draws: it is at least their exact risk and near it
 pub record IsRiskOf (cards margin gamma : ℕ) (draws : List ℕ) (risk : ℕ) : Type 0 where
   pub at_least : IsAtLeastExact cards margin gamma draws risk
   pub near : IsNearExact cards margin gamma draws risk

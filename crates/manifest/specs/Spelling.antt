@@ -40,7 +40,7 @@ row_cards (id ∷ []) = 0
 row_cards (id ∷ number ∷ rest) = number_or_0 (number_of number)
 
 -- The first rule that a batch's record breaks, after the records of other batches. It must have two fields. Its id must be an id and be in
--- none of those records. It must have a number of cards, and together with theirs these mustn't be too many.
+-- none of those records. It must have a number of cards, and its cards together with theirs mustn't be too many.
 abbrev pub broken_rule : List Fields → Fields → Option MRule
 broken_rule before [] = Some M2
 broken_rule before (id ∷ []) = Some M2

@@ -1,4 +1,4 @@
--- The claims of the values so far, and those of what is left.
+-- The claims of the values so far, and the claims of those that are left.
 use Rattle.std.proofs.Common.{◌≡◌, ℕ, ◌+◌, ◌<◌, List, [], ◌∷◌, ◌++◌, length, get_or, drop, map, Ok, Err, refl, sym, ap, ◌∙◌, arith, append_assoc, append-nil, Result}
 use Rattle.std.proofs.lemmas.List.{drop_more, drop_all, get_or-map, length-map, length-append}
 use Rattle.serde_json.specs.Data.{Data}

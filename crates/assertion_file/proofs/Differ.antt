@@ -1,4 +1,4 @@
--- Lists of ids none of which stands twice, and lists of candidates.
+-- Lists of ids in which none occurs twice, and lists of candidates.
 use Rattle.std.proofs.Common.{inl, inr, ◌≡◌, ◌==◌, ℕ, Bool, true, false, not, ◌&&◌, ◌||◌, List, [], ◌∷◌, ◌++◌, refl, sym, ap, ap₂, ◌∙◌}
 use Rattle.std.specs.List.{list_all}
 use Rattle.std.proofs.lemmas.Bool.{and_parts, and_from, and_right, or_parts, not-true, not_from_false, both_ways, cases_Bool}
@@ -43,7 +43,7 @@ none-named ids h = rw h refl
 pub none-differ : (ids : List Id) → all_differ ids ≡ false → are_candidates ids ≡ false
 none-differ ids h = and_right _ _ h
 
--- ---- one number more
+-- ---- one more number
 
 parted : (a e d b : Bool) → (not (a || e) && (d && not b)) ≡ ((not a && d) && not (e || b))
 parted true e d b = refl

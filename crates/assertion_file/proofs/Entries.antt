@@ -1,4 +1,4 @@
--- What is said of an assertion whose members are there.
+-- What is said about an assertion whose members are there.
 use Rattle.std.proofs.Common.{◌≡◌, ◌∙◌, ℕ, Bool, true, false, ◌&&◌, List, [], ◌∷◌, Some, None, Ok, Err, refl, ap}
 use Rattle.std.specs.Prelude.{option_map, ok_or}
 use Rattle.serde_json.specs.Data.{Data}

@@ -1,4 +1,4 @@
--- What is said of a file whose own members are there.
+-- What is said about a file whose own members are there.
 use Rattle.std.proofs.Common.{◌≡◌, ℕ, ◌<◌, ◌≤◌, ◌&&◌, Bool, true, false, List, [], ◌∷◌, ◌++◌, length, Some, None, Ok, Err, refl, sym, ap, ap₂, subst, ◌∙◌}
 use Rattle.std.specs.Prelude.{if◌then◌else◌, map, nat_le, ok_or, unwrap_or, Option, Result}
 use Rattle.std.specs.List.{list_all}
@@ -26,7 +26,7 @@ use Rattle.assertion_file.proofs.Judged.{AllHold, all-hold}
 pub refuse : {A R : Type 0} (said : Result A R) (rule : R) (fault : Fault R) → said ≡ Err rule → fault ≡ Refused rule 0 → Refuses (located 0 said) fault
 refuse said rule fault h e = subst (Refuses (located 0 said)) (sym e) (ap (located 0) h)
 
--- ---- some rules after others
+-- ---- some rules followed by others
 
 kept-first : {A B : Type 0} (rules more : List (Bool × FRule)) (x : A) (y : B) → judged rules x ≡ Ok x → judged (rules ++ more) y ≡ judged more y
 kept-first [] more x y h = refl
@@ -46,7 +46,7 @@ pub ids-refused : (heading : Heading) (fault : Fault FRule) → Refuses (located
 unfolding judged_heading
 ids-refused heading fault r = refused-first (id_rules heading) (named_rules heading ++ order_rules heading ++ count_rules heading) heading heading fault r
 
--- the contest, the candidates and those who are named keep the rules
+-- the contest, the candidates and those who are named obey the rules
 pub record HasNamed (heading : Heading) : Type 0 where
   pub ids : judged (id_rules heading) heading ≡ Ok heading
   pub named : judged (named_rules heading) heading ≡ Ok heading
@@ -116,7 +116,7 @@ pub all_named : (heading : Heading) → is_among heading.candidates heading.winn
     list_all (is_among heading.candidates) (unwrap_or heading.order []) ≡ true → judged (named_rules heading) heading ≡ Ok heading
 all_named heading w o = rw (w, o) refl
 
--- of the candidates of an order, if it is this one
+-- about the candidates of an order, if it is this one
 pub of_order : (heading : Heading) (ids order : List Id) (b : Bool) → ids ≡ heading.candidates → heading.order ≡ Some order →
     list_all (is_among ids) order ≡ b → list_all (is_among heading.candidates) (unwrap_or heading.order []) ≡ b
 of_order heading ids order b same is h = ap₂ (λ ids order. list_all (is_among ids) (unwrap_or order [])) (sym same) is ∙ h
@@ -139,7 +139,7 @@ pub kept : (heading : Heading) → HasOrder heading → keeps_order heading ≡ 
 unfolding judged_heading
 kept heading h o r m t = rw (h.names.version, h.names.contest, h.names.candidates, h.winner, h.order, o, r, m, t) refl
 
--- ---- a heading that keeps the rules
+-- ---- a heading that obeys the rules
 
 pub margin-is : (records margin : ℕ) → is_margin records margin ≡ true → IsMargin records margin
 margin-is records margin h =

@@ -3,7 +3,7 @@ use Rattle.std.proofs.Common.{◌≡◌, Bool, true, false, List, [], ◌∷◌,
 use Rattle.std.specs.Prelude.{if◌then◌else◌}
 use Rattle.assertion_file.specs.Reading.{judged}
 
--- what two rules refuse is refused where others follow them
+-- what two rules refuse is also refused if others follow them
 pub err-more : {A B R : Type 0} (a b : Bool) (r s : R) (more : List (Bool × R)) (x : A) (y : B) (rule : R) →
     judged ((a, r) ∷ (b, s) ∷ []) x ≡ Err rule →
     judged ((a, r) ∷ (b, s) ∷ more) y ≡ Err rule

@@ -1,4 +1,4 @@
--- A line feed behind the text of a value changes nothing of what it reads as.
+-- A line feed after the text of a value doesn't change what it reads as.
 use Rattle.std.proofs.Common.{◌≡◌, ℕ, Bool, true, false, cond, List, [], ◌∷◌, ◌++◌, refl, sym, ap, ap₂, ◌∙◌, append_assoc, append-nil}
 use Rattle.json.specs.Token as tokens
 use Rattle.json.specs.Word.{ends_word, word}

@@ -1,4 +1,4 @@
--- The texts of a list of values, one after the other.
+-- The texts of a list of values, one by one.
 use Rattle.std.proofs.Common.{◌≡◌, ℕ, ◌+◌, ◌<◌, Bool, true, false, ◌&&◌, List, [], ◌∷◌, ◌++◌, length, get_or, take, drop, map, refl, sym, ap, ◌∙◌, arith}
 use Rattle.std.proofs.lemmas.List.{get_or-map, drop_more, take_more, take_all, take-append-drop, length-map, map-append}
 use Rattle.std.specs.List.{list_all}
@@ -15,7 +15,7 @@ texts values = texts_of (map view values)
 pub length-texts : (values : List Value) → length (texts values) ≡ length values
 length-texts values = length-map (map view values) text_of ∙ length-map values view
 
--- the text comes after the first i ones
+-- the text comes after the first i texts
 pub record Next (all : List Id) (i : ℕ) (text : Id) : Type 0 where
   pub more : take (i + 1) all ≡ take i all ++ text ∷ []
   pub split : all ≡ take i all ++ text ∷ drop (i + 1) all
@@ -35,7 +35,7 @@ next values i value within is =
 pub all_taken : (values : List Value) → take (length values) (texts values) ≡ texts values
 all_taken values = take_all (length values) (texts values) (omega (arith, length-texts values))
 
--- ---- what holds of all of them
+-- ---- what is true of all of them
 
 pub outside : (p : Id → Bool) (all : List Id) (i : ℕ) (text : Id) → Next all i text → p text ≡ false → list_all p all ≡ false
 outside p all i text n h =

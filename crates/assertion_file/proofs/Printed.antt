@@ -92,7 +92,7 @@ is_needed Needed = true
 is_needed Unread = false
 is_needed Absent = false
 
--- what is told of draws, as it is read
+-- what is said about draws, as it is read
 abbrev is_few : Option (Option ℕ) → Type 0
 is_few draws = IfSome (unwrap_or draws None) IsDrawCount
 

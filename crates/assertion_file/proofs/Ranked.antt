@@ -1,4 +1,4 @@
--- Back from ids to numbers, where the ids all differ.
+-- From ids back to numbers, if the ids all differ.
 use Rattle.std.proofs.Common.{◌≡◌, ℕ, zero, suc, ◌<◌, ◌≤◌, ◌%◌, ◌==◌, ◌^◌, Bool, true, false, cond, not, inl, inr, List, [], ◌∷◌, length, get_or, filter, refl, sym, ap, ap₂, ◌∙◌, arith}
 use Rattle.std.specs.List.{list_all}
 use Rattle.std.proofs.Math.Nat.{div-eq_of_lt, pow-le-pow_right}

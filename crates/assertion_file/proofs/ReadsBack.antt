@@ -1,4 +1,4 @@
--- An exact value's text, with a line feed behind it, reads as the value.
+-- The text of an exact value, with a line feed after it, reads as the value.
 use Rattle.std.proofs.Common.{◌≡◌, ◌≤◌, [], ◌∷◌, ◌++◌, Some, None, refl, sym, ap, ap₂, append-nil, ◌∙◌, arith}
 use Rattle.std.specs.Prelude.{if◌then◌else◌, option_and_then}
 use Rattle.std.proofs.lemmas.Str.{IsUtf8-append, is_utf8-from_IsUtf8}

@@ -1,4 +1,4 @@
--- What is sent one after the other makes an array or an object.
+-- What is sent piece by piece makes an array or an object.
 use Rattle.std.proofs.Common.{◌≡◌, ℕ, ◌+◌, suc, List, [], ◌∷◌, ◌++◌, length, map, Option, Some, refl, sym, ap, ap₂, subst, ◌∙◌}
 use Rattle.std.proofs.lemmas.List.{length-append}
 use Rattle.serde.specs.Event.{Log, Logs, map_begins, map_ends, seq_begins, seq_ends, WritesEach, WritesSeq}

@@ -1,4 +1,4 @@
--- The candidates of a set, one after the other.
+-- The candidates of a set, one by one.
 use Rattle.std.proofs.Common.{◌≡◌, ℕ, zero, suc, ◌+◌, ◌-◌, ◌^◌, ◌<◌, ◌≤◌, true, false, cond, List, [], ◌∷◌, ◌++◌, filter, sym, ap, subst, ◌∙◌, append-nil, arith}
 use Rattle.std.proofs.lemmas.List.Elements.{filter-append}
 use Rattle.serde.specs.Event.{Log, WritesEach}
@@ -34,7 +34,7 @@ pub sent-other : (ids : List Id) (set c : ℕ) (first last : Log) → has set c 
     WritesEach (SendsId ids) (members_below set (c + 1)) first last
 sent-other ids set c first last h so_far = subst (λ cs. WritesEach (SendsId ids) cs first last) (sym (below-other set c h)) so_far
 
--- ---- how many there are
+-- ---- the number of candidates in the set
 
 none-above : (set n more : ℕ) → set < 2 ^ n → members_below set (n + more) ≡ members_below set n
 none-above set n zero small =

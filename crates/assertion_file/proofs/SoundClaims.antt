@@ -1,4 +1,4 @@
--- What is read as a claim is a sound one.
+-- What is read as a claim is sound.
 use Rattle.std.proofs.Common.{◌≡◌, ◌==◌, ℕ, ◌+◌, ◌<◌, ◌^◌, Bool, true, false, not, ◌&&◌, cond, inl, inr, List, [], ◌∷◌, length, get_or, All, Option, Some, None, Ok, Err, refl, sym, ap, subst, ◌∙◌, eqb-true, arith}
 use Rattle.std.specs.Prelude.{option_map, unwrap_or, nat_le, nat_lt, position, Result, IfSome}
 use Rattle.std.specs.List.{list_all, list_any, position_or_len}
@@ -55,7 +55,7 @@ pair-proper ids winner loser w l apart =
     (lt-ltb (number_of ids loser) n (any-within (λ other. is_same other loser) ids l)))
     differ
 
--- ---- an assertion that keeps the rules is proper
+-- ---- an assertion that obeys the rules is proper
 
 numbers-below : (ids names : List Id) (c : ℕ) → list_all (is_among ids) names ≡ true → Member c (numbers_of ids names) → c < length ids
 numbers-below ids names c h m =

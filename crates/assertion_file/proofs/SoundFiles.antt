@@ -1,4 +1,4 @@
--- What is read of an assertion file keeps the rules of files.
+-- What is read of an assertion file obeys the rules of files.
 use Rattle.std.proofs.Common.{◌≡◌, ℕ, true, ◌&&◌, List, length, map, All, Option, None, Some, Result, Ok, Err, refl, sym, ap, subst, ◌∙◌}
 use Rattle.std.specs.Prelude.{ok_or, nat_le, IfSome}
 use Rattle.std.proofs.lemmas.Bool.{and_parts, leb-true}
@@ -24,7 +24,7 @@ use Rattle.assertion_file.proofs.SoundClaims.{IsSoundPlanned, claims-sound}
 ok_is : {A E : Type 0} {x y : A} (a b : Result A E) → a ≡ Ok x → b ≡ Ok y → a ≡ b → x ≡ y
 ok_is a b e k h = cc
 
--- the heading that keeps the rules is the one that is judged
+-- the heading that obeys the rules is the one that is judged
 kept-same : (heading kept : Heading) → judged_heading heading ≡ Ok kept → heading ≡ kept
 unfolding judged_heading
 kept-same heading kept h = (all-hold (heading_rules heading) heading kept h).1

@@ -1,4 +1,4 @@
--- The claims of a file, each with what is told of its draws.
+-- The claims of a file, each with what is said about its draws.
 use Rattle.std.proofs.Common.{◌≡◌, ℕ, suc, ◌<◌, Bool, true, false, List, [], ◌∷◌, length, get_or, map, All, Option, Some, None, refl, sym, ap, ap₂, ◌∙◌, arith}
 use Rattle.std.specs.Prelude.{zip, is_some, option_map, slice_index_or, unwrap_or, IfSome}
 use Rattle.std.proofs.lemmas.List.{get_or-map, length-map}
@@ -14,7 +14,7 @@ use Rattle.assertion_file.specs.declared.members.Terms.{Terms}
 abbrev pub Told : Type 0
 Told = Claim × Option (Option ℕ)
 
--- ---- by their place
+-- ---- by place
 
 abbrev pub HasEach : List Claim → Plan → Type 0
 HasEach claims plan = length plan.draws ≡ length claims
@@ -56,7 +56,7 @@ module _ {F : Type 0} (shown : F → Plan) where
 
 -- ---- what is true of each
 
--- a sound claim with draws within the limit, told where there is a plan
+-- a sound claim with draws within the limit, which are said if there is a plan
 pub record IsSoundTold (n records : ℕ) (planned : Bool) (told : Told) : Type 0 where
   pub claim : IsSoundClaim n records told.0
   pub draws : IfSome (unwrap_or told.1 None) IsDrawCount

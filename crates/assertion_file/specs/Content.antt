@@ -7,8 +7,8 @@ use Rattle.irv_base.specs.declared.limits.TheConstants.{FEWEST_CANDIDATES, MOST_
 use Rattle.assertions.specs.Assertions.{is_proper}
 use Rattle.assertions.specs.declared.assertion.Claim.{Claim}
 
--- what an audit takes: the cards of the manifest, gamma in thousandths, the risk limit in millionths, and the draws for each claim, or
--- None if it takes a full count
+-- what an audit takes: the cards of the manifest, gamma in thousandths, the risk limit in millionths, and for each claim the draws, or None
+-- if it takes a full count
 pub record Plan : Type 0 where
   pub cards : ℕ
   pub gamma : ℕ
@@ -29,11 +29,11 @@ pub record Content : Type 0 where
 abbrev pub candidate_count : Content → ℕ
 candidate_count file = length file.candidates
 
--- in votes, a margin a claim
+-- in votes, one margin for each claim
 abbrev pub margins_of : Content → List ℕ
 margins_of file = map (λ claim. claim.margin) file.claims
 
--- a margin in votes, among this many records
+-- a margin in votes, with this many records
 pub record IsMargin (records margin : ℕ) : Type 0 where
   pub some : 1 ≤ margin
   pub most : margin ≤ records
@@ -70,7 +70,7 @@ pub record IsSound (file : Content) : Type 0 where
   pub claims : All (IsSoundClaim (candidate_count file) file.records) file.claims
   pub plan : IfSome file.plan (IsSoundPlan file.records (length file.claims))
 
--- the ids keep the rule of ids, which the type of a name has
+-- the ids obey the rule of ids, as the type of a name ensures
 pub record HasNames (file : Content) : Type 0 where
   pub contest : IsTrue (is_name file.contest)
   pub candidates : IsTrue (list_all is_name file.candidates)

@@ -20,7 +20,7 @@ three_candidates = record {
   plan = None;
 }
 
--- for two candidates, of whom the first has this many votes more than the second, among this many records
+-- two candidates, the first with this many votes more than the second, and this many records
 abbrev pub led_by : ℕ → ℕ → Content
 led_by margin records = record {
   contest = codes "1";
@@ -38,17 +38,17 @@ abbrev pub two_candidates : Content
 two_candidates =
     record (led_by 1 5) { contest = codes "7"; candidates = codes "A\\1" ∷ codes "B" ∷ [] }
 
--- five ballots 1, among as many cards
+-- five ballots 1, and the same number of cards
 abbrev pub planned : Content
 planned = record (led_by 5 5) {
   plan = Some (record { cards = 5; gamma = 100; limit = 50000; draws = Some 5 ∷ [] });
 }
 
--- the same three candidates, of whom nothing is said of a best margin
+-- the same three candidates, with nothing said about a best margin
 abbrev pub covered : Content
 covered = record three_candidates { order = None }
 
--- and with a plan
+-- the same with a plan
 abbrev pub covered_and_planned : Content
 covered_and_planned = record planned { order = None }
 

@@ -15,7 +15,7 @@ ids_of ids cs = map (id_of ids) cs
 abbrev pub ids_in : List Id → ℕ → List Id
 ids_in ids set = ids_of ids (filter (has set) (candidates (length ids)))
 
--- ---- back from the ids
+-- ---- from ids to numbers
 
 -- the number of the candidate with that id, or the number of candidates if there is none
 abbrev pub number_of : List Id → Id → ℕ

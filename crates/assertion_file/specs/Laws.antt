@@ -10,19 +10,19 @@ TextReadsBack =
     (file : Content) → IsSound file → HasNames file →
     json_of (assertion_file_text file) ≡ Some (file_value file)
 
--- what is printed says the same
+-- what is printed reads back as the file that was printed
 abbrev pub PrintedReadsBack : Type 0
 PrintedReadsBack =
     (file : Content) → IsSound file → HasNames file →
     assertion_file_of (assertion_file_text file) ≡ Ok file
 
--- what is read keeps the rules of files
+-- what is read obeys the rules of files
 abbrev pub ReadIsSound : Type 0
 ReadIsSound =
     (bytes : List ℕ) (file : Content) → assertion_file_of bytes ≡ Ok file →
     IsSound file × HasNames file
 
--- what is read is printed by a file that says the same
+-- what is read is printed by a file that says the same thing
 abbrev pub ReadIsPrinted : Type 0
 ReadIsPrinted =
     (bytes : List ℕ) (file : Content) → assertion_file_of bytes ≡ Ok file →

@@ -1,4 +1,4 @@
--- What an assertion file says, or which rule it breaks first, and at which place.
+-- What an assertion file says, or which rule it breaks first and at which place.
 use Rattle.std.specs.Prelude.{ℕ, ◌+◌, Bool, true, not, ◌&&◌, ◌||◌, ◌==◌, nat_le, if◌then◌else◌, List, [], ◌∷◌, ◌++◌, length, map, Option, Some, None, ok_or, option_map, unwrap_or, Result, Ok, Err}
 use Rattle.std.specs.List.{list_all}
 use Rattle.serde_json.specs.Data.{Data}
@@ -31,7 +31,7 @@ abbrev pub judged : {A R : Type 0} → List (Bool × R) → A → Result A R
 judged [] value = Ok value
 judged (held ∷ more) value = if held.0 then judged more value else Err held.1
 
--- ---- the members of the file's object, but for the elements of its assertions
+-- ---- the members of the file's object, except for the elements of its assertions
 
 abbrev pub are_candidates : List Id → Bool
 are_candidates ids =
@@ -76,7 +76,7 @@ abbrev pub is_order_if : ℕ → Option (List ℕ) → Bool
 is_order_if n None = true
 is_order_if n (Some order) = is_order n order
 
--- as the numbers of these candidates
+-- the order as numbers of these candidates
 abbrev pub order_numbers : List Id → Option (List Id) → Option (List ℕ)
 order_numbers ids order = option_map (numbers_of ids) order
 
@@ -92,7 +92,7 @@ count_rules heading =
     (are_terms heading.records heading.terms, F6) ∷
     []
 
--- all rules of a heading, in their order
+-- all rules of a heading, in order
 abbrev pub heading_rules : Heading → List (Bool × FRule)
 heading_rules heading =
     id_rules heading ++ named_rules heading ++ order_rules heading ++ count_rules heading
@@ -105,7 +105,7 @@ heading_of value = do
   heading ← ok_or (heading_in value) F2
   judged_heading heading
 
--- ---- an assertion, if there are candidates with these ids and this many records
+-- ---- an assertion, given candidates with these ids and this many records
 
 -- a NEN's rest has each of its candidates once, and both the winner and the loser
 abbrev pub is_rest : ℕ → ℕ → Option (List ℕ) → Bool
@@ -135,7 +135,7 @@ abbrev pub assertion_with : ℕ → ℕ → Option (List ℕ) → Assertion
 assertion_with w l None = Neb w l
 assertion_with w l (Some rest) = Nen w l (set_of rest)
 
--- the assertion of those two with that rest, or the first rule that the rest breaks
+-- the assertion between these two candidates with this rest, or the first rule that the rest breaks
 abbrev pub judged_assertion : List Id → ℕ → ℕ → Option (List Id) → Result Assertion FRule
 judged_assertion ids w l rest =
     let numbers = option_map (numbers_of ids) rest in
@@ -162,7 +162,7 @@ abbrev pub located : {A R : Type 0} → ℕ → Result A R → Result A (Refusal
 located at (Ok value) = Ok value
 located at (Err rule) = refused rule at
 
--- the claims of a list of values, the first of which has the number at
+-- the claims in a list of values, where the first value has the number at
 abbrev pub claims_from : List Id → ℕ → DrawsMember → ℕ → List Data → Result (List Planned) (Refusal FRule)
 claims_from ids records asked at [] = Ok []
 claims_from ids records asked at (value ∷ values) = do
@@ -170,7 +170,7 @@ claims_from ids records asked at (value ∷ values) = do
   claims ← claims_from ids records asked (at + 1) values
   Ok (claim ∷ claims)
 
--- those of the file's object
+-- the claims in the file's object
 abbrev pub claims_in : Heading → Result (List Planned) (Refusal FRule)
 claims_in heading =
     claims_from heading.candidates heading.records (draws_asked heading.version heading.terms) 1

@@ -1,4 +1,4 @@
--- What a JSON value states: the members of the file's object, and those of an assertion.
+-- What a JSON value states: the members of the file's object, and the members of an assertion.
 use Rattle.std.specs.Prelude.{ℕ, List, [], ◌∷◌, map, codes, nat_le, ◌==◌, ◌&&◌, Bool, if◌then◌else◌, Option, Some, None, is_none, is_some, unwrap_or, option_map, option_and_then}
 use Rattle.std.specs.List.{list_all}
 use Rattle.serde_json.specs.Data.{Data, Items, no_items, item}
@@ -43,13 +43,13 @@ text_of value = unwrap_or (as_str value) []
 abbrev pub texts_of : List Data → List (List ℕ)
 texts_of values = map text_of values
 
--- a list that has texts alone
+-- a list of only texts
 abbrev pub texts : Data → Option (List (List ℕ))
 texts value = do
   values ← list value
   if list_all is_text values then Some (texts_of values) else None
 
--- the member of that name, if the value is an object that has one of that kind
+-- the member with that name, if the value is an object that has one of that kind
 abbrev pub member_as : {A : Type 0} → (Data → Option A) → List ℕ → Data → Option A
 member_as kind name value = do
   found ← get name value
@@ -72,7 +72,7 @@ lacks name value = is_none (get name value)
 
 -- ---- the file's object
 
--- version 2 has the terms of a plan, version 3 may have them, and it has no order
+-- version 2 has the terms of a plan; version 3 may have them, and has no order
 pub record Heading : Type 0 where
   pub assertions : List Data
   pub candidates : List Id
@@ -91,20 +91,20 @@ terms_of value = do
   limit ← number_in (codes "limit") value
   Some (record { cards = cards; gamma = gamma; limit = limit })
 
--- all of them or none
+-- all of the terms, or none
 abbrev pub terms_or_none : Data → Option (Option Terms)
 terms_or_none value =
     if lacks (codes "cards") value && lacks (codes "gamma") value && lacks (codes "limit") value
     then Some None
     else option_map Some (terms_of value)
 
--- in another version they aren't looked at
+-- in other versions the terms aren't looked at
 abbrev pub terms_in : ℕ → Data → Option (Option Terms)
 terms_in version value =
     if version == PLAN_VERSION then option_map Some (terms_of value) else
     (if version == COVER_VERSION then terms_or_none value else Some None)
 
--- the value, if it has no member of that name
+-- nothing, if the value has no member with that name
 abbrev pub none_if_absent : {A : Type 0} → List ℕ → Data → Option (Option A)
 none_if_absent name value = if lacks name value then Some None else None
 
@@ -138,7 +138,7 @@ heading_in value = do
 
 -- ---- an assertion
 
--- a NEB has no rest; no draws are planned if the member is null, and if the file has no plan
+-- a NEB has no rest; no draws are planned if the member is null or the file has no plan
 pub record Entry : Type 0 where
   pub winner : Id
   pub loser : Id
@@ -152,7 +152,7 @@ rest_in kind value =
     if is_same kind (codes "NEB") then Some None else
     (if is_same kind (codes "NEN") then option_map Some (texts_in (codes "rest") value) else None)
 
--- a plan has them for each assertion; without one version 1 doesn't look at them, and version 3 has none
+-- a plan has draws for each assertion; without one, version 1 doesn't look at them and version 3 has none
 abbrev pub draws_asked : ℕ → Option Terms → DrawsMember
 draws_asked version (Some terms) = Needed
 draws_asked version None = if version == COVER_VERSION then Absent else Unread

@@ -22,14 +22,14 @@ members_of (named ∷ rest) = member named.0 named.1 (members_of rest)
 abbrev pub array_of : List Data → Data
 array_of values = array (items_of values)
 
--- the names have to be in byte order
+-- the names must be in byte order
 abbrev pub object_of : List (List ℕ × Data) → Data
 object_of named = object (members_of named)
 
 abbrev pub whole_number : ℕ → Data
 whole_number n = number (unsigned n)
 
--- a member that is there if there is a number
+-- a member that is only there if there is a number
 abbrev pub number_member : List ℕ → Option ℕ → List (List ℕ × Data)
 number_member name None = []
 number_member name (Some n) = (name, whole_number n) ∷ []
@@ -39,7 +39,7 @@ number_member name (Some n) = (name, whole_number n) ∷ []
 abbrev pub ids_value : List Id → Data
 ids_value ids = array_of (map string ids)
 
--- the draws that are planned for an assertion, with null for a full count; without a plan there is no such member
+-- the draws that are planned for an assertion, with null for a full count; without a plan the member is missing
 abbrev pub draws_member : Option (Option ℕ) → List (List ℕ × Data)
 draws_member None = []
 draws_member (Some None) = (codes "draws", null) ∷ []
@@ -58,7 +58,7 @@ abbrev pub neb_value : Option (Option ℕ) → Id → Id → ℕ → Data
 neb_value draws winner loser margin =
     object_of (draws_member draws ++ neb_others winner loser margin)
 
--- those of a NEN
+-- the other members of a NEN
 abbrev pub nen_others : Id → Id → Data → ℕ → List (List ℕ × Data)
 nen_others winner loser rest margin =
     (codes "kind", string (codes "NEN")) ∷
@@ -80,23 +80,23 @@ assertion_value ids draws (Nen w l rest) margin =
 abbrev pub claim_value : List Id → Claim × Option (Option ℕ) → Data
 claim_value ids told = assertion_value ids told.1 told.0.assertion told.0.margin
 
--- each claim with what is printed of its draws
+-- each claim with what is printed about its draws
 abbrev pub told_of : Option Plan → List Claim → List (Claim × Option (Option ℕ))
 told_of None claims = map (λ claim. (claim, None)) claims
 told_of (Some plan) claims = map (λ planned. (planned.0, Some planned.1)) (zip claims plan.draws)
 
--- a file without an order is of version 3, with a plan or without one
+-- a file without an order is of version 3, with or without a plan
 abbrev pub version_of : Option (List ℕ) → Option Plan → ℕ
 version_of None plan = COVER_VERSION
 version_of (Some order) None = VERSION
 version_of (Some order) (Some plan) = PLAN_VERSION
 
--- the order by the ids of its candidates, the first eliminated first
+-- the order, given by the ids of its candidates, the first eliminated first
 abbrev pub order_member : List Id → Option (List ℕ) → List (List ℕ × Data)
 order_member ids None = []
 order_member ids (Some order) = (codes "order", ids_value (ids_of ids order)) ∷ []
 
--- candidates by their ids
+-- candidates are given by their ids
 abbrev pub file_members : Content → List (List ℕ × Data)
 file_members file =
     (codes "assertions", array_of (map (claim_value file.candidates) (told_of file.plan file.claims))) ∷
@@ -125,6 +125,6 @@ assertion_file_text file = compact_text (file_value file) ++ line_feed ∷ []
 
 -- ---- reading
 
--- the value that bytes are, if they are JSON in UTF-8
+-- the value of the bytes, if they are JSON in UTF-8
 abbrev pub json_of : List ℕ → Option Data
 json_of bytes = if is_utf8 bytes then read bytes else None

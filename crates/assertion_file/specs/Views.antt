@@ -1,4 +1,4 @@
--- The members that were looked up in a value, as what they state.
+-- The members that were looked up in a value, seen as what they state.
 use Rattle.std.specs.Prelude.{List, map, option_map}
 use Rattle.serde_json.specs.View.{view}
 use Rattle.serde_json.specs.declared.value.Value.{Value}

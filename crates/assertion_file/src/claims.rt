@@ -14,7 +14,7 @@ use irv_base::{Candidate, MOST_DRAWS, Name};
 use serde_json::Value;
 use std::alloc::Global;
 
-/// The assertion of a claim, its margin, and the draws that are planned for it. A full count has none, nor has a file without a plan.
+/// The assertion of a claim, its margin, and the draws that are planned for it. A full count has no draws, nor does a file without a plan.
 #[derive(Clone, Copy)]
 pub struct Planned {
     pub assertion: Assertion,
@@ -22,14 +22,14 @@ pub struct Planned {
     pub draws: Option<u32>,
 }
 
-/// Whether a margin can be one among this many records.
+/// Whether the margin is possible with this many records.
 pub fn is_margin(records: u32, margin: u32) -> bool
     ensures { result ≡ is_margin records margin }
 {
     1 <= margin && margin <= records
 }
 
-// The NEN with that rest.
+// The NEN with this rest.
 fn nen(names: &[Name], w: Candidate, l: Candidate, rest: &[Value]) -> Result<Assertion, FRule>
     requires { length names.now ≤ ROOM }
     ensures { result ≡ judged_assertion names.now w l (Some (stated_ids rest.now)) }
@@ -44,8 +44,7 @@ fn nen(names: &[Name], w: Candidate, l: Candidate, rest: &[Value]) -> Result<Ass
     Ok(Assertion::Nen { w, l, rest })
 }
 
-/// The NEB, or the NEN with that rest: F4 if the rest has an unknown id, F5 if it repeats one or lacks the winner or
-/// the loser.
+/// The NEB, or the NEN with this rest: F4 if the rest has an unknown id, F5 if it repeats an id or lacks the winner or the loser.
 pub fn assertion(
     names: &[Name],
     w: Candidate,
@@ -72,7 +71,7 @@ pub fn are_draws(draws: Option<u32>) -> bool
     }
 }
 
-// The numbers of an assertion, among this many records.
+// Whether the numbers of an assertion are possible with this many records.
 fn are_counts(records: u32, entry: &Entry<'_>) -> bool
     ensures { result ≡ (is_margin records entry.now.margin && are_draws entry.now.draws) }
 {
@@ -131,7 +130,7 @@ fn claim_at(
     }
 }
 
-/// The assertions in order, or the first of them that breaks a rule.
+/// Returns the assertions in order, or the first one that breaks a rule.
 pub fn claims(
     alloc: Global,
     names: &[Name],

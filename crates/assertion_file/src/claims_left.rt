@@ -1,4 +1,4 @@
-// Claims in the layout that is printed. No clause says what is read of them: it is a guess.
+// Claims in the layout that is printed. No clause says what is read of them, so it is a guess.
 ghost use Rattle.std.specs.Prelude.{◌≡◌, ◌≤◌, length};
 ghost use Rattle.irv_base.specs.declared.limits.TheConstants.{ROOM};
 
@@ -6,18 +6,18 @@ use crate::claims::Planned;
 use assertions::Assertion;
 use irv_base::{CandSet, Candidate, Name, candidate_named};
 
-/// Printed claims, as far as they aren't read.
+/// The part of the printed claims that hasn't been read.
 #[derive(Drop)]
 pub struct ClaimsLeft<'a> {
     names: &'a [Name],
     left: &'a [u8],
-    // The winner and the loser of the claim before: the next one most likely has the same, or those who follow.
+    // The winner and the loser of the previous claim. The next claim most likely has the same ones, or the candidates that follow them.
     w: Candidate,
     l: Candidate,
     ghost few: { length names.now ≤ ROOM },
 }
 
-// The candidate with that id, who is sought from this place on, and then from the front.
+// The candidate with that id, looked up from this place on, and then from the front.
 fn candidate_from(names: &[Name], from: usize, id: &[u8]) -> Option<Candidate>
     requires { length names.now ≤ ROOM }
 {
@@ -30,7 +30,7 @@ fn candidate_from(names: &[Name], from: usize, id: &[u8]) -> Option<Candidate>
 }
 
 impl<'a> ClaimsLeft<'a> {
-    /// The claims that this text has, between candidates of these names.
+    /// The claims in this text, between candidates with these names.
     pub fn new(names: &'a [Name], text: &'a [u8]) -> ClaimsLeft<'a>
         requires { length names.now ≤ ROOM }
     {
@@ -47,13 +47,13 @@ impl<'a> ClaimsLeft<'a> {
         self.left.is_empty()
     }
 
-    /// Passes over these bytes, if they come next.
+    /// Skips these bytes, if they come next.
     pub fn pass(&mut self, bytes: &[u8]) -> Option<()> {
         self.left = self.left.strip_prefix(bytes)?;
         Some(())
     }
 
-    // The number that comes next.
+    // Reads the next number.
     fn number(&mut self) -> Option<u32> {
         let end = self.left.iter().position(|b| !b.is_ascii_digit())?;
         let (digits, left) = self.left.split_at(end);
@@ -65,7 +65,7 @@ impl<'a> ClaimsLeft<'a> {
         Some(number)
     }
 
-    // The candidate whose id comes next, in quotes, and most likely is at this place of the list or soon after.
+    // Reads the next candidate, whose id is in quotes and is most likely at this place in the list or soon after it.
     fn candidate(&mut self, from: usize) -> Option<Candidate> {
         self.pass(b"\"")?;
         let end = self.left.iter().position(|b| *b == b'"')?;
@@ -75,7 +75,7 @@ impl<'a> ClaimsLeft<'a> {
         candidate_from(self.names, from, id)
     }
 
-    // The candidates whose ids come next, as a list.
+    // Reads a list of the ids of candidates.
     fn set(&mut self) -> Option<CandSet> {
         let mut set = CandSet::empty();
         let mut from = 0;
@@ -92,7 +92,7 @@ impl<'a> ClaimsLeft<'a> {
         None
     }
 
-    // The draws that come next.
+    // Reads the next draws.
     fn draws(&mut self) -> Option<Option<u32>> {
         self.pass(b"\"draws\":")?;
         let draws = if self.pass(b"null").is_some() {
@@ -119,7 +119,7 @@ impl<'a> ClaimsLeft<'a> {
         self.set()
     }
 
-    // The assertion that comes next and its margin.
+    // Reads the next assertion and its margin.
     fn assertion(&mut self) -> Option<(Assertion, u32)> {
         let is_neb = self.is_neb()?;
         self.pass(b",\"loser\":")?;
@@ -138,7 +138,7 @@ impl<'a> ClaimsLeft<'a> {
         Some((assertion, margin))
     }
 
-    /// The claim that comes next, and the draws that are planned for it, if the file has a plan.
+    /// Reads the next claim and the draws that are planned for it, if the file has a plan.
     pub fn claim(&mut self, is_planned: bool) -> Option<Planned> {
         self.pass(b"{")?;
         let draws = if is_planned { self.draws()? } else { None };

@@ -8,7 +8,7 @@ pub fn three_candidates()
     ensures { assertion_file_text examples.three_candidates ≡ codes "{\"assertions\":[{\"kind\":\"NEB\",\"loser\":\"3\",\"margin\":1,\"winner\":\"2\"},{\"kind\":\"NEN\",\"loser\":\"1\",\"margin\":2,\"rest\":[\"1\",\"2\"],\"winner\":\"2\"},{\"kind\":\"NEN\",\"loser\":\"1\",\"margin\":2,\"rest\":[\"1\",\"3\"],\"winner\":\"3\"}],\"candidates\":[\"1\",\"2\",\"3\"],\"contest\":\"1\",\"margin\":1,\"order\":[\"2\",\"1\",\"3\"],\"records\":12,\"version\":1,\"winner\":\"2\"}" ++ line_feed ∷ [] }
 {}
 
-/// Two candidates. A backslash in an id is printed as two.
+/// Two candidates. A backslash in an id is printed as two backslashes.
 pub fn two_candidates()
     ensures { assertion_file_text examples.two_candidates ≡ codes "{\"assertions\":[{\"kind\":\"NEB\",\"loser\":\"B\",\"margin\":1,\"winner\":\"A\\\\1\"}],\"candidates\":[\"A\\\\1\",\"B\"],\"contest\":\"7\",\"margin\":1,\"order\":[\"A\\\\1\",\"B\"],\"records\":5,\"version\":1,\"winner\":\"A\\\\1\"}" ++ line_feed ∷ [] }
 {}

@@ -8,13 +8,13 @@ use file_fault::{Fault, Rule};
 pub enum FRule {
     /// The bytes are JSON.
     F1,
-    /// Each member is there and of its kind.
+    /// Each member is there and of the right kind.
     F2,
     /// The version of the form.
     F3,
-    /// Ids: of the contest, of the candidates, and of those who are named.
+    /// Ids: those of the contest and of the candidates, and those of the candidates who are named.
     F4,
-    /// The order has each candidate once, and so has a NEN's rest each of its own.
+    /// The order has each candidate once, and the rest of a NEN has each of its candidates once.
     F5,
     /// The number of records, and the margins.
     F6,
@@ -35,5 +35,5 @@ impl Rule for FRule {
     }
 }
 
-/// Why an assertion file isn't read: the place is an assertion's number from 1, or 0 for the file's own members.
+/// Why an assertion file isn't read. The place is the number of an assertion, from 1, or 0 for the file's own members.
 pub type FileFault = Fault<FRule>;

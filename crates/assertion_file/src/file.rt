@@ -10,7 +10,7 @@ use assertions::Claim;
 use irv_base::{Candidate, Name, Order};
 use std::marker::Model;
 
-/// The values of which an assertion file is made. That they are those of a file isn't said.
+/// The values that make up an assertion file. The type doesn't say that they are those of a file.
 ///
 /// To a contract they are the record of these values, with a list for each list.
 #[derive(Drop)]
@@ -19,17 +19,17 @@ pub struct Parts {
     pub contest: Name,
     /// The ids of the candidates, in the contest's order.
     pub candidates: Vec<Name>,
-    /// How many ballot records the contest has.
+    /// The number of ballot records of the contest.
     pub records: u32,
     /// The winner of the contest.
     pub winner: Candidate,
     /// The smallest margin of the assertions, in votes.
     pub margin: u32,
-    /// The order that is the hardest to refute, first eliminated first. A file of version 3 says nothing of one.
+    /// The order that is hardest to refute, first eliminated first. A file of version 3 says nothing about an order.
     pub order: Option<Order>,
     /// The assertions and their margins, in votes.
     pub claims: Vec<Claim>,
-    /// What an audit of the assertions takes. A file of version 1 doesn't say it, and one of version 3 need not.
+    /// What an audit of the assertions takes. A file of version 1 doesn't say this, and one of version 3 doesn't have to.
     pub plan: Option<PlanFacts>,
 }
 
@@ -50,15 +50,15 @@ impl Model for Parts {
     } };
 }
 
-/// What an assertion file says of a contest: its winner, the assertions that are to be confirmed with their margins, and an order that
-/// shows why there is no larger margin. A file of version 2 also has a plan: the draws that confirm each assertion if no card shows a
-/// discrepancy. A file of version 3 has no order, since it doesn't say that its margin is the best one. It may have a plan.
+/// What an assertion file says of a contest: its winner, the assertions to be confirmed with their margins, and an order that shows why
+/// there is no larger margin. A file of version 2 also has a plan: the draws that confirm each assertion if no card shows a discrepancy. A
+/// file of version 3 has no order, since it doesn't say that its margin is the best one. It may have a plan.
 ///
-/// There are `FEWEST_CANDIDATES` to `MOST_CANDIDATES` candidates, all different, and 1 to `MOST_RECORDS` ballot records. A candidate is
-/// its place in the list of candidates, from 0. An order is one of all candidates, each assertion is a proper one among them, and each
-/// margin, the file's and those of the claims, is 1 to the number of records. A plan is for at least as many cards as there are records
-/// and at most `MOST_CARDS`, with a gamma of 1 to `GREATEST_GAMMA` and a limit of 1 to `GREATEST_LIMIT`, and has for each claim 1 to
-/// `MOST_DRAWS` draws, or none. Whether the file holds of any ballots is for a checker to find out.
+/// There are `FEWEST_CANDIDATES` to `MOST_CANDIDATES` candidates, all different, and 1 to `MOST_RECORDS` ballot records. A candidate is its
+/// place in the list of candidates, from 0. An order is one of all candidates, each assertion is a proper one among them, and each margin,
+/// of the file and of the claims, is 1 to the number of records. A plan is for at least as many cards as there are records and at most
+/// `MOST_CARDS`, with a gamma of 1 to `GREATEST_GAMMA` and a limit of 1 to `GREATEST_LIMIT`, and for each claim it has 1 to `MOST_DRAWS`
+/// draws, or none. It is up to a checker to find out whether the file is true of any ballots.
 ///
 /// To a contract a file is the record of these values, with a list for each list.
 #[derive(Drop)]
@@ -92,7 +92,7 @@ fn with_draws(plan: Option<PlanFacts>, draws: Vec<Option<u32>>) -> Option<PlanFa
 }
 
 impl AssertionFile {
-    /// A file that says this of the contest.
+    /// The file that says this of the contest.
     pub fn new(parts: Parts) -> AssertionFile
         requires fewest { FEWEST_CANDIDATES ≤ length parts.candidates }
         requires most { length parts.candidates ≤ MOST_CANDIDATES }
@@ -110,7 +110,7 @@ impl AssertionFile {
         AssertionFile { parts }
     }
 
-    /// The file with this plan, in place of one that it may have.
+    /// The file with this plan in place of any that it has.
     pub fn with_plan(self, plan: PlanFacts) -> AssertionFile
         requires { IsSoundPlan self.records (length self.claims) plan }
         ensures { result ≡ record self { plan = Some plan } }
@@ -120,8 +120,7 @@ impl AssertionFile {
         AssertionFile { parts }
     }
 
-    /// The file with these claims and the draws that are planned for them, in place of those that it has. A file without a plan
-    /// has no draws.
+    /// The file with these claims and the draws that are planned for them, in place of its own. A file without a plan has no draws.
     pub(crate) fn with_claims(self, claims: Vec<Claim>, draws: Vec<Option<u32>>) -> AssertionFile
         requires claims { All (IsSoundClaim (length self.candidates) self.records) claims.items }
         requires each { length draws.items ≡ length claims.items }
@@ -154,7 +153,7 @@ impl AssertionFile {
         self.parts.candidates.as_slice()
     }
 
-    /// How many ballot records the contest has.
+    /// The number of ballot records of the contest.
     pub fn records(&self) -> u32
         ensures same { result ≡ self.now.records }
         ensures some { 1 ≤ result }
@@ -171,7 +170,7 @@ impl AssertionFile {
         self.parts.winner
     }
 
-    /// The margin that the file claims for the contest, in votes: that of its closest assertion.
+    /// The margin that the file claims for the contest, in votes: the margin of its closest assertion.
     pub fn margin(&self) -> u32
         ensures same { result ≡ self.now.margin }
         ensures within { IsMargin self.now.records result }
@@ -179,7 +178,7 @@ impl AssertionFile {
         self.parts.margin
     }
 
-    /// The order that the file gives as the hardest to refute, first eliminated first. A file of version 3 gives none.
+    /// The order that the file gives as the hardest to refute, first eliminated first. A file of version 3 gives no order.
     pub fn order(&self) -> Option<&Order>
         ensures same { option_map (λ order. order.now) result ≡ self.now.order }
         ensures order { IfSome result (λ order.

@@ -1,5 +1,5 @@
-// A guess at what an assertion file says, from bytes in the layout that is printed. If it is printed and gives the same bytes, it is
-// right. If the layout is another one, or anything is in the way, there is no guess.
+// A guess at what an assertion file says, from bytes in the layout that is printed. The guess is right if printing it gives the same bytes.
+// If the layout is a different one, or anything else goes wrong, there is no guess.
 ghost use Rattle.std.specs.Prelude.{◌≡◌, ◌≤◌, ◌&&◌, length, All, IfSome, IsTrue};
 ghost use Rattle.std.specs.List.{list_all};
 ghost use Rattle.irv_base.specs.declared.limits.TheConstants.{ROOM};
@@ -15,7 +15,7 @@ use assertions::{Assertion, Claim};
 use irv_base::Candidate;
 use std::alloc::Global;
 
-// Claims, and the draws that are planned for each.
+// Claims, and the draws that are planned for each one.
 #[derive(Drop)]
 struct Guessed {
     claims: Vec<Claim>,
@@ -28,7 +28,7 @@ fn guessed_claims(alloc: Global, file: &AssertionFile, text: &[u8]) -> Option<Gu
     let mut claims = Vec::new(alloc);
     let mut draws = Vec::new(alloc);
     let mut left = ClaimsLeft::new(file.candidates(), text);
-    // A claim takes at least a byte.
+    // A claim takes up at least one byte.
     for _ in text {
         let told = left.claim(is_planned)?;
         claims
@@ -64,7 +64,7 @@ fn is_proper(n: usize, a: &Assertion) -> bool
     }
 }
 
-// Whether a claim can be one of a file about this many candidates and records.
+// Whether the claim is possible in a file with this many candidates and records.
 fn is_sound(n: usize, records: u32, claim: &Claim) -> bool
     requires { n ≤ ROOM }
     ensures { result ≡ (is_proper n claim.now.assertion && is_margin records claim.now.margin) }
@@ -91,7 +91,7 @@ fn are_all_draws(draws: &[Option<u32>]) -> bool
     draws.iter().all(|draws| are_draws(*draws))
 }
 
-// Whether these claims and draws can be those of the file.
+// Whether these claims and draws are possible in the file.
 fn are_right(file: &AssertionFile, told: &Guessed) -> bool
     ensures claims { IsTrue result → All
         (IsSoundClaim (length file.now.candidates) file.now.records) told.now.claims.items }
@@ -108,7 +108,7 @@ fn are_right(file: &AssertionFile, told: &Guessed) -> bool
         && are_all_draws(told.draws.as_slice())
 }
 
-// The last place from which the text goes on with this part.
+// The last place at which the text continues with this part.
 fn last_place(text: &[u8], part: &[u8]) -> Option<usize>
     ensures { IfSome result (λ at. at ≤ length text.now) }
 {
@@ -120,7 +120,7 @@ fn last_place(text: &[u8], part: &[u8]) -> Option<usize>
     None
 }
 
-// The file without its claims, from the members after them.
+// The file without its claims, read from the members after them.
 fn without_claims(alloc: Global, members: &[u8]) -> Option<AssertionFile> {
     let mut text = Vec::new(alloc);
     text.extend_from_slice(b"{\"assertions\":[").ok()?;

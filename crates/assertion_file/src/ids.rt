@@ -40,7 +40,7 @@ pub fn is_among(names: &[Name], id: &[u8]) -> bool
     names.iter().any(|name| name.bytes() == id)
 }
 
-/// The names of the candidates, if these are the ids of `FEWEST_CANDIDATES` to `MOST_CANDIDATES` different ones.
+/// The names of the candidates, if these are the ids of `FEWEST_CANDIDATES` to `MOST_CANDIDATES` different candidates.
 pub fn candidates(alloc: Global, ids: &[Value]) -> Result<Option<Vec<Name>>, Memory>
     ensures named { IfOk result (λ names. IfSome names (λ v. v.items ≡ stated_ids ids.now)) }
     ensures valid { IfOk result (λ names. IfSome names (λ _.
@@ -64,7 +64,7 @@ pub fn candidates(alloc: Global, ids: &[Value]) -> Result<Option<Vec<Name>>, Mem
     Ok(Some(names))
 }
 
-/// The numbers of the candidates with these ids, if each is one of them.
+/// The numbers of the candidates with these ids, if each id is a candidate's.
 pub fn numbers(alloc: Global, names: &[Name], ids: &[Value]) -> Result<Option<Vec<u8>>, Memory>
     requires { length names.now ≤ ROOM }
     ensures numbers { IfOk result (λ numbers. IfSome numbers (λ v.
@@ -84,7 +84,7 @@ pub fn numbers(alloc: Global, names: &[Name], ids: &[Value]) -> Result<Option<Ve
     Ok(Some(numbers))
 }
 
-/// The set of the candidates with these ids: F4 if one isn't among them, otherwise F5 if one is repeated.
+/// The set of the candidates with these ids: F4 if an id isn't among them, otherwise F5 if one is repeated.
 pub fn set_of(names: &[Name], ids: &[Value]) -> Result<CandSet, FRule>
     requires { length names.now ≤ ROOM }
     ensures { let wanted = stated_ids ids.now in let cs = numbers_of names.now wanted in

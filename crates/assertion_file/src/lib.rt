@@ -1,5 +1,4 @@
-//! The assertion file: what an audit of an instant-runoff contest has to confirm, as a JSON text that anyone can
-//! check.
+//! The assertion file: what an audit of an instant-runoff contest must confirm, as a JSON text that anyone can check.
 #![tactic(auto)]
 
 mod claims;

@@ -8,13 +8,13 @@ ghost use Rattle.assertion_file.specs.Views.{stated_ids, stated_heading, stated_
 use crate::print::{COVER_VERSION, PLAN_VERSION};
 use serde_json::Value;
 
-/// The greatest number that a file may have.
+/// The largest number that a file may have.
 pub const MOST_NUMBER: u32 = u32::MAX;
 
 /// The terms of an audit, as a file states them.
 #[derive(Clone, Copy)]
 pub struct Terms {
-    /// How many cards it says that the manifest has.
+    /// The number of cards in the manifest, according to the file.
     pub cards: u32,
     /// Gamma, in thousandths.
     pub gamma: u32,
@@ -22,14 +22,14 @@ pub struct Terms {
     pub limit: u32,
 }
 
-/// What the assertions of a file have to say of their draws.
+/// What the assertions of a file must say about their draws.
 #[derive(Clone, Copy)]
 pub enum DrawsMember {
-    /// Each has the member, since the file has a plan.
+    /// Each assertion has the member, since the file has a plan.
     Needed,
-    /// It isn't looked at: in `VERSION`.
+    /// The member isn't looked at. This is so in `VERSION`.
     Unread,
-    /// None has it: in `COVER_VERSION`, without a plan.
+    /// No assertion has the member. This is so in `COVER_VERSION` without a plan.
     Absent,
 }
 
@@ -38,17 +38,17 @@ pub enum DrawsMember {
 pub struct Heading<'a> {
     /// Its assertions, each a value of any kind.
     pub assertions: &'a [Value],
-    /// The ids of the candidates, texts alone.
+    /// The ids of the candidates, all of them texts.
     pub candidates: &'a [Value],
     /// The contest's id.
     pub contest: &'a str,
-    /// What it says is the smallest margin of its assertions.
+    /// The smallest margin of its assertions, according to the file.
     pub margin: u32,
-    /// The ids of its order, first eliminated first, texts alone. In `COVER_VERSION` it has none.
+    /// The ids of its order, first eliminated first, all of them texts. In `COVER_VERSION` there is no order.
     pub order: Option<&'a [Value]>,
-    /// How many records it says that the ballot file has.
+    /// The number of records in the ballot file, according to this file.
     pub records: u32,
-    /// What it plans its draws for: in `PLAN_VERSION`, and in `COVER_VERSION` if it has a plan.
+    /// The terms for which its draws are planned: in `PLAN_VERSION`, and in `COVER_VERSION` if it has a plan.
     pub terms: Option<Terms>,
     /// The version of the file's form.
     pub version: u32,
@@ -63,29 +63,29 @@ pub struct Entry<'a> {
     pub winner: &'a str,
     /// The id of its loser.
     pub loser: &'a str,
-    /// By how many votes it is said to be true.
+    /// The number of votes by which it is said to be true.
     pub margin: u32,
-    /// For a NEN the ids of those left, all of them texts. A NEB has none.
+    /// For a NEN, the ids of the candidates left, all of them texts. A NEB has none.
     pub rest: Option<&'a [Value]>,
-    /// The draws that are planned for it. A full count has none, nor has a file without a plan.
+    /// The draws that are planned for it. A full count has no draws, nor does a file without a plan.
     pub draws: Option<u32>,
 }
 
-/// The text that the value is, or an empty one if it isn't one.
+/// The text of the value, or an empty text if the value isn't one.
 pub fn text_of(value: &Value) -> &str
     ensures { result.now ≡ text_of (view value.now) }
 {
     value.as_str().unwrap_or("")
 }
 
-/// The text that the member of this name is.
+/// The text of the member with this name.
 pub fn text_in<'a>(value: &'a Value, name: &str) -> Option<&'a str>
     ensures { option_map (λ text. text.now) result ≡ text_in name.now (view value.now) }
 {
     value.get(name)?.as_str()
 }
 
-/// The whole number that the value is, if it is one of 32 bits.
+/// The whole number that the value is, if it fits in 32 bits.
 pub fn number(value: &Value) -> Option<u32>
     ensures { result ≡ number (view value.now) }
 {
@@ -96,7 +96,7 @@ pub fn number(value: &Value) -> Option<u32>
     Some(n as u32)
 }
 
-/// The whole number that the member of this name is, if it is one of 32 bits.
+/// The whole number that the member with this name is, if it fits in 32 bits.
 pub fn number_in(value: &Value, name: &str) -> Option<u32>
     ensures { result ≡ number_in name.now (view value.now) }
 {
@@ -113,7 +113,7 @@ fn number_or_null(value: &Value) -> Option<Option<u32>>
     Some(Some(number(value)?))
 }
 
-/// The elements of the list that the member of this name is.
+/// The elements of the list that the member with this name is.
 pub fn list_in<'a>(value: &'a Value, name: &str) -> Option<&'a [Value]>
     ensures { option_map (λ values. map view values.now) result ≡
         list_in name.now (view value.now) }
@@ -127,7 +127,7 @@ fn are_texts(values: &[Value]) -> bool
     values.iter().all(|value| value.is_string())
 }
 
-/// The elements of the list that the member of this name is, if all of them are texts.
+/// The elements of the list that the member with this name is, if all of them are texts.
 #[tactic(auto, using(crate::proofs::Elements::all_texts))]
 pub fn texts_in<'a>(value: &'a Value, name: &str) -> Option<&'a [Value]>
     ensures { option_map (λ values. stated_ids values.now) result ≡
@@ -157,7 +157,7 @@ fn lacks(value: &Value, name: &str) -> bool
     value.get(name).is_none()
 }
 
-// The terms, all of them or none.
+// All of the terms, or none.
 fn terms_or_none(value: &Value) -> Option<Option<Terms>>
     ensures { result ≡ terms_or_none (view value.now) }
 {
@@ -167,7 +167,7 @@ fn terms_or_none(value: &Value) -> Option<Option<Terms>>
     Some(Some(terms_of(value)?))
 }
 
-// What a file of this version plans its draws for.
+// The terms for which a file of this version plans its draws.
 fn terms_in(version: u32, value: &Value) -> Option<Option<Terms>>
     ensures { result ≡ terms_in version (view value.now) }
 {
@@ -192,7 +192,7 @@ fn order_in(version: u32, value: &Value) -> Option<Option<&[Value]>>
     Some(None)
 }
 
-/// The members of a file, if all are there and of their kind.
+/// The members of a file, if all are there and of the right kind.
 #[tactic(auto, unfolding(crate::specs::Stated::heading_in))]
 pub fn heading_in(value: &Value) -> Option<Heading<'_>>
     ensures { option_map stated_heading result ≡ heading_in (view value.now) }
@@ -211,7 +211,8 @@ pub fn heading_in(value: &Value) -> Option<Heading<'_>>
     })
 }
 
-/// The ids of a NEN's set, as texts. A NEB's aren't looked at; there is no answer if the kind is another one, or a NEN has none.
+/// The ids of a NEN's set, as texts. Those of a NEB aren't looked at. There is no result if the kind is a different one, or if a NEN has no
+/// such ids.
 pub fn rest_in<'a>(kind: &str, value: &'a Value) -> Option<Option<&'a [Value]>>
     ensures { option_map (λ rest. option_map (λ values. stated_ids values.now) rest) result ≡
         rest_in kind.now (view value.now) }
@@ -225,7 +226,7 @@ pub fn rest_in<'a>(kind: &str, value: &'a Value) -> Option<Option<&'a [Value]>>
     Some(Some(texts_in(value, "rest")?))
 }
 
-/// What the assertions have to say of their draws, in a file of this version with these terms.
+/// What the assertions must say about their draws, in a file of this version with these terms.
 pub fn draws_asked(version: u32, terms: Option<Terms>) -> DrawsMember
     ensures { result ≡ draws_asked version terms }
 {
@@ -254,7 +255,7 @@ fn draws_in(asked: DrawsMember, value: &Value) -> Option<Option<u32>>
     }
 }
 
-/// The members of an assertion, if all are there and of their kind, and its draws are said as the file asks for.
+/// The members of an assertion, if all are there and of the right kind, and it says about its draws what the file requires.
 #[tactic(auto, unfolding(crate::specs::Stated::entry_in))]
 pub fn entry_in(asked: DrawsMember, value: &Value) -> Option<Entry<'_>>
     ensures { option_map stated_entry result ≡ entry_in asked (view value.now) }

@@ -1,14 +1,14 @@
-// What an assertion file says of its audit.
+// What an assertion file says about its audit.
 use std::marker::Model;
 
-/// What an audit of the assertions takes if no card shows a discrepancy: `cards` are those of the manifest, `gamma` is in thousandths,
-/// the risk limit `limit` in millionths, and `draws` has for each assertion, in the file's order, how many draws confirm it, or `None` if
-/// that takes a full count.
+/// What an audit of the assertions takes if no card shows a discrepancy. `cards` are those of the manifest, `gamma` is in thousandths, and
+/// the risk limit `limit` is in millionths. For each assertion, in the file's order, `draws` has the number of draws that confirm it, or
+/// `None` if that takes a full count.
 ///
 /// To a contract it is the record of these values, with a list of the draws.
 #[derive(Drop)]
 pub struct PlanFacts {
-    /// How many cards the manifest has.
+    /// The number of cards in the manifest.
     pub cards: u32,
     /// Gamma, in thousandths.
     pub gamma: u32,

@@ -1,6 +1,6 @@
 // The text of an assertion file.
 //
-// The members go to the writer of `serde_json` one after the other. A `Value` of each of a hundred thousand assertions took ten times as
+// The members go to the writer of `serde_json` one by one. Building a `Value` for each of a hundred thousand assertions took ten times as
 // long as the text.
 ghost use Rattle.std.specs.Prelude.{◌≡◌, ◌<◌, ◌≤◌, ◌+◌, ◌^◌, length, map, option_map, slice_index_or, None, Some, Ok, All, IfOk, IfSome, OnOk, IsTrue};
 ghost use Rattle.std.specs.List.{list_all};
@@ -31,8 +31,7 @@ pub const VERSION: u32 = 1;
 /// The version of its form with a plan.
 pub const PLAN_VERSION: u32 = 2;
 
-/// The version of its form without an order: a covering set of true assertions, of which nothing is said of a best margin. It may have
-/// a plan.
+/// The version of its form without an order: a covering set of true assertions, with nothing said about a best margin. It may have a plan.
 pub const COVER_VERSION: u32 = 3;
 
 // A member that is a text.
@@ -53,7 +52,7 @@ fn send_number<S: Serializer>(name: &str, number: u32, out: &mut S) -> Result<()
     out.u64(number as u64)
 }
 
-// A member that is there if there is a number.
+// A member that is only there if there is a number.
 fn send_number_if<S: Serializer>(
     name: &str,
     number: Option<u32>,
@@ -68,7 +67,7 @@ fn send_number_if<S: Serializer>(
     }
 }
 
-// The draws that are planned for an assertion, or null for a full count. Without a plan there is no such member.
+// The draws that are planned for an assertion, or null for a full count. Without a plan this member is missing.
 fn send_draws<S: Serializer>(draws: Option<Option<u32>>, out: &mut S) -> Result<(), S::Error>
     ensures { OnOk result (WritesEach SendsNamed (draws_member draws)
         (S.written out.old) (S.written out.new)) }
@@ -149,7 +148,7 @@ fn send_set<S: Serializer>(names: &[Name], set: CandSet, out: &mut S) -> Result<
     out.end_seq()
 }
 
-// How many members an assertion has, with this many apart from its draws.
+// The number of members of an assertion that has this many apart from its draws.
 fn with_draws(draws: Option<Option<u32>>, others: usize) -> usize
     requires { others ≤ 5 }
     ensures { result ≡ length (draws_member draws) + others }
@@ -228,7 +227,7 @@ fn send_claim<S: Serializer>(
     }
 }
 
-// What a plan has for the claim at this place.
+// What a plan says for the claim at this place.
 fn draws_at(plan: Option<&PlanFacts>, at: usize) -> Option<Option<u32>>
     requires { IfSome plan (λ facts. at < length facts.now.draws) }
     ensures { result ≡ option_map (λ facts. slice_index_or facts.now.draws at None) plan.entry }
@@ -287,7 +286,7 @@ fn numbers_of(plan: Option<&PlanFacts>) -> (Option<u32>, Option<u32>, Option<u32
     }
 }
 
-// How many members it has.
+// The number of members of the file.
 fn member_count(order: Option<&Order>, plan: Option<&PlanFacts>) -> usize
     ensures { (file : Content) → file.order ≡ option_map (λ order. order.now) order.entry
         → file.plan ≡ option_map (λ facts. facts.now) plan.entry
@@ -297,7 +296,7 @@ fn member_count(order: Option<&Order>, plan: Option<&PlanFacts>) -> usize
     if plan.is_some() { ordered + 3 } else { ordered }
 }
 
-// The file as serde has it: members are sent to the writer one after the other, and no tree of them is built.
+// The file as serde sees it. Its members are sent to the writer one by one, and no tree of them is built.
 #[derive(Clone, Copy)]
 struct FileForm<'f>(&'f AssertionFile);
 
@@ -331,14 +330,14 @@ impl Serialize for FileForm<'_> {
     }
 }
 
-/// The bytes of an assertion file: one JSON object in compact form, its members in byte order, and a line feed. It is of version 3 if it
-/// has no order, otherwise of version 2 if it has a plan, and of version 1 if it has none.
+/// The bytes of an assertion file: one JSON object in compact form, with its members in byte order, and a line feed. The file is of version
+/// 3 if it has no order. Otherwise it is of version 2 if it has a plan, and of version 1 if it has none.
 pub fn print_file(alloc: Global, file: &AssertionFile) -> Result<Vec<u8>, Memory>
     ensures text { IfOk result (λ v. v.items ≡ assertion_file_text file.now) }
     ensures json { IfOk result (λ v. json_of v.items ≡ Some (file_value file.now)) }
     ensures reads_back { IfOk result (λ v. assertion_file_of v.items ≡ Ok file.now) }
 {
-    // Texts, numbers, lists and objects are refused for want of memory only.
+    // Texts, numbers, lists and objects are only refused for lack of memory.
     let Ok(mut bytes) = serde_json::to_vec(alloc, &FileForm(file)) else {
         return Err(Memory);
     };

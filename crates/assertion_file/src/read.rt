@@ -1,8 +1,8 @@
-// Reading an assertion file.
+// Reads an assertion file.
 //
-// The bytes are first taken for some that `print_file` wrote. The guess is printed again, and the same bytes show that it is right. Bytes
-// in another layout, and all that are refused, are judged from the tree of their values, which takes seventeen times as much memory as
-// the text. So there is one grammar, and no refusal comes from the quick way.
+// The bytes are first assumed to be what `print_file` wrote. The guess is printed again, and if that gives the same bytes, it is right.
+// Bytes in a different layout, and all bytes that are refused, are judged from the tree of their values, which takes seventeen times as
+// much memory as the text. So there is one grammar, and no refusal comes from the quick way.
 ghost use Rattle.std.specs.Prelude.{◌≡◌, ◌<◌, ◌≤◌, ◌&&◌, false, length, map, option_map, Ok, IfOk, IfErr, IfSome, IfNone, IsTrue};
 ghost use Rattle.serde_json.specs.View.{view};
 ghost use Rattle.irv_base.specs.Names.{is_among};
@@ -37,14 +37,14 @@ struct Ids {
     candidates: Vec<Name>,
 }
 
-// Those of the candidates whom the file's own members name, the order as numbers.
+// The candidates whom the file's own members name, with the order as numbers.
 #[derive(Drop)]
 struct Chosen {
     winner: Candidate,
     numbers: Option<Vec<u8>>,
 }
 
-// Those who are named in the file's own members.
+// What the file's own members name.
 #[derive(Drop)]
 struct Named {
     contest: Name,
@@ -91,7 +91,7 @@ fn ids_of(alloc: Global, heading: &Heading<'_>) -> Result<Ids, FileFault>
     })
 }
 
-// The numbers of the order's candidates, if there is an order, where the winner is a candidate: F4.
+// The numbers of the order's candidates, if there is an order, provided that the winner is a candidate: F4.
 fn numbers_of(
     alloc: Global,
     names: &[Name],
@@ -116,7 +116,7 @@ fn numbers_of(
     Ok(Some(numbers))
 }
 
-// Judges whether those who are named are candidates: F4.
+// Checks that those who are named are candidates: F4.
 fn chosen_of(alloc: Global, names: &[Name], heading: &Heading<'_>) -> Result<Chosen, FileFault>
     requires few { length names.now ≤ ROOM }
     requires same { names.now ≡ stated_ids heading.now.candidates.now }
@@ -137,7 +137,7 @@ fn chosen_of(alloc: Global, names: &[Name], heading: &Heading<'_>) -> Result<Cho
     Ok(Chosen { winner, numbers })
 }
 
-// The order of these candidates, if the numbers are one.
+// The order of these candidates, if the numbers form one.
 fn order_of(names: &[Name], numbers: &[u8]) -> Option<Order>
     requires some { 0 < length names.now }
     requires few { length names.now ≤ ROOM }
@@ -151,7 +151,7 @@ fn order_of(names: &[Name], numbers: &[u8]) -> Option<Order>
     }
 }
 
-// The order of these candidates, if there are numbers: F5 if they aren't one.
+// The order of these candidates, if there are numbers: F5 if they don't form one.
 fn order_if(names: &[Name], numbers: Option<Vec<u8>>) -> Result<Option<Order>, FileFault>
     requires some { 0 < length names.now }
     requires few { length names.now ≤ ROOM }
@@ -170,7 +170,7 @@ fn order_if(names: &[Name], numbers: Option<Vec<u8>>) -> Result<Option<Order>, F
     Ok(Some(order))
 }
 
-// What a plan is for, among this many records.
+// Whether these are terms of a plan for this many records.
 fn are_terms(records: u32, terms: Option<Terms>) -> bool
     ensures { result ≡ are_terms records terms }
 {
@@ -225,7 +225,7 @@ fn names_of(alloc: Global, heading: &Heading<'_>) -> Result<Named, FileFault>
     })
 }
 
-// The claims of the file's object.
+// The claims in the file's object.
 fn claims_in(
     alloc: Global,
     names: &[Name],
@@ -267,7 +267,7 @@ fn draws_of(alloc: Global, planned: &[Planned]) -> Result<Vec<Option<u32>>, Memo
     Ok(planned.iter().map(|planned| planned.draws).collect(alloc)?)
 }
 
-// The plan of these claims on these terms, if there are any.
+// The plan for these claims on these terms, if there are terms.
 fn plan_of(
     alloc: Global,
     terms: Option<Terms>,
@@ -325,7 +325,7 @@ pub fn read_tree(alloc: Global, bytes: &[u8]) -> Result<AssertionFile, FileFault
     }
 }
 
-// The guess at what the bytes say, if it is printed as the same bytes.
+// The guess at what the bytes say, if printing it gives the same bytes.
 fn printed_as(alloc: Global, bytes: &[u8]) -> Option<AssertionFile>
     ensures { IfSome result (λ file. assertion_file_of bytes.now ≡ Ok file) }
 {
@@ -337,24 +337,24 @@ fn printed_as(alloc: Global, bytes: &[u8]) -> Option<AssertionFile>
     Some(file)
 }
 
-/// Reads an assertion file, of any version.
+/// Reads an assertion file of any version.
 ///
-/// The bytes are one JSON object, with its members in any order. Further members are skipped, and if a name is repeated the last one
-/// counts. A NEN's rest may be in any order, and a NEB's isn't looked at. Numbers are whole ones up to `u32::MAX`, without a point or an
-/// exponent. Version 2 has a plan: the file's members `cards`, `gamma` and `limit`, and the member `draws` of each assertion, a number or
-/// null. In version 1 these aren't looked at. Version 3 has all of them or none, and has no `order`.
+/// The bytes are one JSON object, with its members in any order. Further members are skipped, and if a name is repeated, the last one
+/// counts. The rest of a NEN may be in any order, and that of a NEB isn't looked at. Numbers are whole numbers up to `u32::MAX`, without a
+/// point or an exponent. Version 2 has a plan: the file's members `cards`, `gamma` and `limit`, and the member `draws` of each assertion,
+/// which is a number or null. In version 1 these aren't looked at. Version 3 has all of them or none, and has no `order`.
 ///
-/// It is refused by the first rule that is broken. The file's own members are judged first, with place 0: by F1 if the bytes aren't JSON;
-/// by F2 if a member is missing or of another kind, or there in spite of the version; by F3 if the version is none of `VERSION`,
-/// `PLAN_VERSION` and `COVER_VERSION`; by F4 if the contest's
-/// id or a candidate's is none, there aren't `FEWEST_CANDIDATES` to `MOST_CANDIDATES` of them, one is repeated, or the winner or one of
-/// the order isn't among them; by F5 if the order doesn't have each candidate once; by F6 if there aren't 1 to `MOST_RECORDS` records,
-/// the margin isn't 1 to their number, or, in a plan, the cards aren't their number to `MOST_CARDS`, gamma isn't 1 to `GREATEST_GAMMA`,
-/// or the limit isn't 1 to `GREATEST_LIMIT`. Then comes each assertion, with its number from 1 as the place: F2 as above; F4 if one who
-/// is named isn't a candidate, or the winner is the loser; F5 if a NEN's rest repeats a candidate or lacks the winner or the loser; F6 if
-/// the margin isn't 1 to the number of records, or its draws are planned and aren't 1 to `MOST_DRAWS`.
+/// The file is refused by the first rule that is broken. The file's own members are judged first, with place 0: by F1 if the bytes aren't
+/// JSON; by F2 if a member is missing or of the wrong kind, or is there although the version has no such member; by F3 if the version is
+/// none of `VERSION`, `PLAN_VERSION` and `COVER_VERSION`; by F4 if the id of the contest or of a candidate isn't an id, there aren't
+/// `FEWEST_CANDIDATES` to `MOST_CANDIDATES` candidates, one is repeated, or the winner or a candidate in the order isn't among them; by F5
+/// if the order doesn't have each candidate once; by F6 if there aren't 1 to `MOST_RECORDS` records, the margin isn't 1 to their number,
+/// or, in a plan, the cards aren't their number to `MOST_CARDS`, gamma isn't 1 to `GREATEST_GAMMA`, or the limit isn't 1 to
+/// `GREATEST_LIMIT`. Then comes each assertion, with its number from 1 as the place: F2 as above; F4 if someone who is named isn't a
+/// candidate, or the winner is the loser; F5 if the rest of a NEN repeats a candidate or lacks the winner or the loser; F6 if the margin
+/// isn't 1 to the number of records, or if its draws are planned and aren't 1 to `MOST_DRAWS`.
 ///
-/// Bytes as `print_file` writes them are read without a tree of their claims.
+/// Bytes as `print_file` writes them are read without building a tree of their claims.
 pub fn read_file(alloc: Global, bytes: &[u8]) -> Result<AssertionFile, FileFault>
     ensures read { IfOk result (λ file. assertion_file_of bytes.now ≡ Ok file) }
     ensures refused { IfErr result (Refuses (assertion_file_of bytes.now)) }

@@ -17,7 +17,7 @@ pub seen-within : (value : List ℕ → ℕ) → IsAssorter value → (s : Seen)
 seen-within value is (Found ranking) = is ranking
 seen-within value is Missing = omega arith
 
--- of all cards: the discrepancies and the recorded values are twice the cards and the seen values
+-- over all cards, the discrepancies and the recorded values add up to twice the number of cards plus the seen values
 pub discrepancies-sum : (value : List ℕ → ℕ) → IsAssorter value → (recorded : List Recorded) (seen : List Seen) → length seen ≡ length recorded →
     sum (discrepancies value recorded seen) + sum_by (recorded_value value) recorded ≡ 2 * length recorded + sum_by (seen_value value) seen
 discrepancies-sum value is [] [] long = omega arith

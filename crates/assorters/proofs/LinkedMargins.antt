@@ -1,4 +1,4 @@
--- The margin over linked records is that over the ballots: one ballot after the other is put to its card.
+-- The margin over linked records is the margin over the ballots: the ballots are assigned to their cards one by one.
 use Rattle.std.proofs.Common.{◌≡◌, ◌∙◌, [], ◌+◌, ◌-◌, ◌==◌, ◌<◌, ◌≤◌, ℕ, zero, suc, true, false, not, List, Option, Some, None, length, map, take, drop, get_or, set, sum_by, option_map, position, pos, ◌-ℤ◌, refl, sym, ap, subst, add-one, arith}
 use Rattle.std.proofs.lemmas.Int.{ints}
 use Rattle.std.proofs.lemmas.Bool.{not_from_false, both_ways}
@@ -21,11 +21,11 @@ use Rattle.assorters.specs.Laws.{LinkedMarginLaw}
 module _ (value : List ℕ → ℕ) (batches : Batches) (ballots : BallotFile) (are : AreBatches batches.ids batches.counts)
     (differ : all_differ ballots.ids ≡ true) (an_id_each : length ballots.ids ≡ length ballots.rankings)
     (placed : first_without_card batches ballots ≡ None) where
-  -- what the number of a card's ballot is worth
+  -- the value of a card whose ballot has this number
   abbrev worth : ℕ → ℕ
   worth number = recorded_value value (recorded_at ballots.rankings number)
 
-  -- the first ballots, put to their cards
+  -- the first ballots, assigned to their cards
   abbrev put_first : ℕ → List ℕ
   put_first i = ballot_numbers (take i ballots.ids) (cards_of batches)
 

@@ -1,5 +1,5 @@
--- What is compared for the cards: what is recorded of each, and what is seen of it (Stark, SHANGRLA, section 3.2). There is one of both
--- for each card, in the order of the manifest, and cards are numbered from 1.
+-- What is compared for the cards: what is recorded for each, and what is seen of it (Stark, SHANGRLA, section 3.2). Each card has one of
+-- both, in the order of the manifest, and cards are numbered from 1.
 use Rattle.std.specs.Prelude.{ℕ, ◌+◌, ◌-◌, ◌≤◌, List, map, zip, length, slice_index_or, sum_by, ℤ, pos, ◌-ℤ◌}
 use Rattle.manifest.specs.declared.recorded.Recorded.{Recorded}
 use Rattle.manifest.specs.declared.recorded.Recorded.TheVariants.{Ranked, Without}
@@ -21,7 +21,7 @@ module _ (value : List ℕ → ℕ) where
   seen_value (Found ranking) = value ranking
   seen_value Missing = 0
 
-  -- from 0 to 4; 2 if what is seen counts as what is recorded
+  -- from 0 to 4; it is 2 if what is seen counts the same as what is recorded
   abbrev pub discrepancy : Recorded → Seen → ℕ
   discrepancy recorded seen = 2 - recorded_value recorded + seen_value seen
 
@@ -30,11 +30,11 @@ module _ (value : List ℕ → ℕ) where
   margin_over recorded = pos (sum_by recorded_value recorded) -ℤ pos (length recorded)
 
   module _ (recorded : List Recorded) (seen : List Seen) where
-    -- for all cards
+    -- the discrepancies of all cards
     abbrev pub discrepancies : List ℕ
     discrepancies = map (λ card. discrepancy card.0 card.1) (zip recorded seen)
 
-    -- for the card with this number
+    -- the discrepancy of the card with this number
     abbrev pub discrepancy_of : ℕ → ℕ
     discrepancy_of card =
         discrepancy (slice_index_or recorded (card - 1) Without)

@@ -6,11 +6,11 @@ use Rattle.manifest.specs.declared.recorded.Recorded.TheVariants.{Ranked, Withou
 use Rattle.assorters.specs.declared.seen.Seen.{Seen}
 use Rattle.assorters.specs.declared.seen.Seen.TheVariants.{Found, Missing}
 
--- 2 if the first is 0, and 0 if it is 1
+-- 2 if the first candidate is 0, and 0 if it is 1
 abbrev pub lead : List ℕ → ℕ
 lead ranking = if is_first ranking 0 then 2 else (if is_first ranking 1 then 0 else 1)
 
--- three cards, of which the last has no record
+-- three cards, the last of which has no record
 abbrev pub three_records : List Recorded
 three_records = Ranked (0 ∷ []) ∷ Ranked (0 ∷ []) ∷ Without ∷ []
 

@@ -8,7 +8,7 @@ use Rattle.manifest.specs.declared.recorded.Recorded.{Recorded}
 use Rattle.assorters.specs.declared.seen.Seen.{Seen}
 use Rattle.assorters.specs.Cards.{IsAssorter, seen_value, margin_over, discrepancies, discrepancy_of}
 
--- the discrepancies of all cards add up to more than 2 each, less the margin, exactly if the seen values add up to more than 1 each
+-- the discrepancies of all cards add up to more than 2 each, minus the margin, exactly if the seen values add up to more than 1 each
 abbrev pub ComparisonLaw : Type 0
 ComparisonLaw =
     (value : List ℕ → ℕ) (recorded : List Recorded) (seen : List Seen) → IsAssorter value →
@@ -17,7 +17,7 @@ ComparisonLaw =
     <ℤ pos (sum (discrepancies value recorded seen)))
     ↔ (length recorded < sum_by (seen_value value) seen)
 
--- the discrepancies of the cards, in the order of their numbers, are the list of them, each from 0 to 4
+-- the discrepancies of the cards, in the order of their numbers, are the list of discrepancies, each from 0 to 4
 abbrev pub DiscrepanciesLaw : Type 0
 DiscrepanciesLaw =
     (value : List ℕ → ℕ) (recorded : List Recorded) (seen : List Seen) → IsAssorter value →
@@ -26,7 +26,7 @@ DiscrepanciesLaw =
     ≡ discrepancies value recorded seen)
     × All (λ d. d ≤ 4) (discrepancies value recorded seen)
 
--- if each ballot has a card, the margin over the linked records is that over the ballots: a card without a record adds nothing
+-- if each ballot has a card, the margin over the linked records is the margin over the ballots: a card without a record adds nothing
 abbrev pub LinkedMarginLaw : Type 0
 LinkedMarginLaw =
     (value : List ℕ → ℕ) (batches : Batches) (ballots : BallotFile) →

@@ -1,7 +1,7 @@
 // The assorters.
 //
-// A struct's fact can't cite the calls of a type parameter bounded by `Fn`. So an assorter keeps the closure, and each of its calls asks
-// again that it may be called on every ranking and answers 0, 1 or 2.
+// A struct's fact can't cite the calls of a type parameter bounded by `Fn`. So an assorter keeps the closure, and each method that calls it
+// requires again that it may be called on every ranking and returns 0, 1 or 2.
 ghost use Rattle.std.specs.Prelude.{◌≡◌, ◌≤◌, ◌*◌, ℕ, List, sum_by};
 ghost use Rattle.assorters.specs.Calls.{AnswersValues, Computes};
 ghost use Rattle.assorters.specs.Cards.{discrepancy, margin_over, recorded_value, seen_value};
@@ -11,7 +11,7 @@ use crate::Seen;
 use irv_base::Ranking;
 use manifest::{Linked, Recorded};
 
-/// The greatest value.
+/// The largest value.
 pub const GREATEST_VALUE: u8 = 2;
 
 // What a card without a record counts as.
@@ -22,7 +22,7 @@ const NOT_FOUND: u8 = 0;
 
 /// A function of rankings whose values are 0, 1 and 2: a closure that may be called on every ranking.
 ///
-/// What its calls say holds of each function of rankings that the closure computes.
+/// What its calls say is true of each function of rankings that the closure computes.
 #[derive(Drop)]
 pub struct Assorter<F: Fn(&Ranking) -> u8> {
     closure: F,
@@ -49,7 +49,7 @@ impl<F: Fn(&Ranking) -> u8> Assorter<F> {
         (self.closure)(r)
     }
 
-    // What a card counts as that is recorded so.
+    // What a card counts as, given what is recorded for it.
     fn recorded_value(&self, recorded: &Recorded) -> u8
         requires callable { F.IsAlwaysCallable self.now.closure }
         requires values { AnswersValues F.Fn self.now.closure }
@@ -63,7 +63,7 @@ impl<F: Fn(&Ranking) -> u8> Assorter<F> {
         }
     }
 
-    // What a card counts as that is seen so.
+    // What a card counts as, given what is seen of it.
     fn seen_value(&self, seen: &Seen) -> u8
         requires callable { F.IsAlwaysCallable self.now.closure }
         requires values { AnswersValues F.Fn self.now.closure }
@@ -77,7 +77,7 @@ impl<F: Fn(&Ranking) -> u8> Assorter<F> {
         }
     }
 
-    // What all cards count as recorded.
+    // The sum of what all cards count as recorded.
     fn recorded_total(&self, l: &Linked) -> u32
         requires callable { F.IsAlwaysCallable self.now.closure }
         requires values { AnswersValues F.Fn self.now.closure }
@@ -92,7 +92,7 @@ impl<F: Fn(&Ranking) -> u8> Assorter<F> {
         total
     }
 
-    /// The margin over all cards: the sum of what they count as recorded, each less 1.
+    /// The margin over all cards: the sum of what they count as recorded, minus 1 for each card.
     pub fn margin(&self, l: &Linked) -> i64
         requires callable { F.IsAlwaysCallable self.now.closure }
         requires values { AnswersValues F.Fn self.now.closure }
@@ -102,7 +102,7 @@ impl<F: Fn(&Ranking) -> u8> Assorter<F> {
         i64::from(self.recorded_total(l)) - i64::from(l.cards())
     }
 
-    /// The discrepancy of a card: 2, less what it counts as recorded, plus what it counts as seen.
+    /// The discrepancy of a card: 2, minus what it counts as recorded, plus what it counts as seen.
     pub fn overstated(&self, rec: &Recorded, seen: &Seen) -> u8
         requires callable { F.IsAlwaysCallable self.now.closure }
         requires values { AnswersValues F.Fn self.now.closure }

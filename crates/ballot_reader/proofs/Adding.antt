@@ -1,4 +1,4 @@
--- One ballot more.
+-- One more ballot.
 use Rattle.std.proofs.Common.{◌≡◌, ◌<◌, ◌+◌, ◌∙◌, ◌++◌, ◌∷◌, [], ℕ, zero, suc, true, false, not, List, Option, Some, None, Err, length, map, set, refl, sym, ap, subst, arith, inl, inr, length-append, eqb-true}
 use Rattle.std.specs.Prelude.{All, Bool, IfSome, IsTrue, is_some, nat_eq, nat_lt, option_map, if◌then◌else◌}
 use Rattle.std.specs.List.{slice_get}
@@ -76,7 +76,7 @@ unlike (c ∷ contests) (suc k) zero contest chosen d g h n =
     ap (λ (x : Contest). is_same contest.id x.id) (sym e) ∙ elsewhere contests c.id k contest (apart c contests d).0 g
 unlike (c ∷ contests) (suc k) (suc a) contest chosen d g h n = unlike contests k a contest chosen (apart c contests d).1 g h (λ e. n (ap suc e))
 
--- contests that lack the ballot's have what they had
+-- contests other than the ballot's have what they had
 met-same : (contests : List Contest) (ballots : List Ballot) (b : Ballot) (noted : List Noted) →
     is_among (contest_ids contests) b.contest ≡ false → AllNoted ballots contests noted → AllNoted (ballots ++ b ∷ []) contests noted
 met-same [] ballots b [] h m = m
@@ -110,7 +110,7 @@ met-more (c ∷ contests) (suc k) contest ballots b (n ∷ noted) met d g e m ne
 
 -- ---- what is judged of a ballot's record
 
--- it names the contest at a place, and of that contest these ids stood before
+-- the record names the contest at a place, and these ids came before it in that contest
 pub record Meets (contests : List Contest) (ballots : List Ballot) (at : ℕ) (row : Fields) (k : ℕ) (id : Id) (preferences : Fields) (contest : Contest) : Type
     0 where
   pub room : length ballots < MOST_RECORDS
@@ -142,7 +142,7 @@ ranked contests ballots at row k id preferences contest m h o e =
     judged contests ballots at row k id preferences contest m
     ∙ ap (λ b. if b then Err B9 else ballot_with at contest.id id (ranking_of contest.candidates preferences)) h ∙ ap (ballot_with at contest.id id) e
 
--- ---- what is kept of it
+-- ---- the data kept for it
 
 pub same_some : {X : Type 0} (o : Option X) (x y : X) → o ≡ Some x → o ≡ Some y → x ≡ y
 same_some o x y g h = let e = sym g ∙ h in cc
@@ -185,7 +185,7 @@ more-wanted : (t : Bool) (old new : KeptPart) (id : Id) (at : ℕ) (ranking : Li
 more-wanted true old new id at ranking h = ap Some (sym h)
 more-wanted false old new id at ranking h = refl
 
--- contests that lack the ballot's keep what they had
+-- contests other than the ballot's keep what they had
 parts-same : (place : ℕ) (wanted : Wanted) (contests : List Contest) (ballots : List Ballot) (b : Ballot) →
     is_among (contest_ids contests) b.contest ≡ false → parts_from place wanted ballots contests ≡ parts_from place wanted (ballots ++ b ∷ []) contests
 parts-same place wanted [] ballots b h = refl
@@ -242,7 +242,7 @@ apart-other contest ballots b out h =
       distinct = subst (All (λ ranking. IsTrue (is_distinct ranking))) (sym more) h.distinct;
     }
 
--- a ballot of the contest at place k, whose id is new there
+-- a ballot of the contest at place k, with an id that is new there
 pub record IsNew (contests : List Contest) (ballots : List Ballot) (k : ℕ) (contest : Contest) (b : Ballot) : Type 0 where
   pub there : slice_get contests k ≡ Some contest
   pub of : b.contest ≡ contest.id
@@ -277,7 +277,7 @@ kept-more contests wanted ballots old new k contest b part met d kept room is st
 
 -- ---- from places to values
 
--- what is noted of a contest's ids, at its place
+-- what is noted of the ids of a contest, at its place
 pub met-at : (ballots : List Ballot) (contests : List Contest) (noted : List Noted) (k : ℕ) (contest : Contest) →
     AllNoted ballots contests noted → slice_get contests k ≡ Some contest →
     (met : Noted) × (slice_get noted k ≡ Some met) × AreNoted (ballot_ids contest.id ballots) met
@@ -323,7 +323,7 @@ part-at place wanted ballots (c ∷ contests) (suc k) contest g =
     let e : (place + 1) + k ≡ place + suc k = omega arith in
     part-at (place + 1) wanted ballots contests k contest g ∙ ap (λ at. Some (wanted_part at wanted ballots contest)) e
 
--- a part is there only where it is wanted
+-- a part is only there if its contest is asked for
 pub keeps_audited : (contests : List Contest) (wanted : Wanted) (ballots : List Ballot) (parts : List (Option KeptPart)) → WantsAudited contests wanted →
     parts ≡ parts_from 0 wanted ballots contests → KeepsAudited contests parts
 keeps_audited contests wanted ballots parts sized e place contest part there h =
@@ -336,7 +336,7 @@ keeps_audited contests wanted ballots parts sized e place contest part there h =
     by true g = refl
     by false g = absurd cc
 
--- it counts ballots of its own contest
+-- a part counts ballots of its own contest
 pub own_counted : (keeps : Bool) (contest : Contest) → IfSome (counted_for keeps contest) (λ n. n ≡ length contest.candidates)
 own_counted true contest = tt
 own_counted false contest = by (nat_lt ALWAYS_SUMMED (length contest.candidates)) where

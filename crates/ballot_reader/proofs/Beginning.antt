@@ -1,4 +1,4 @@
--- The contests are read, and then ballots, whatever records follow.
+-- The contests are read and then ballots, whatever records follow.
 use Rattle.std.proofs.Common.{◌≡◌, ◌+◌, ◌∙◌, ◌++◌, ◌∷◌, [], ℕ, zero, suc, Bool, true, false, List, Option, Some, None, Result, Ok, Err, length, take, drop, refl, sym, ap, arith, append_assoc, length-append, eqb-true}
 use Rattle.std.specs.Prelude.{if◌then◌else◌}
 use Rattle.std.specs.List.{slice_get}
@@ -42,7 +42,7 @@ are-first (suc n) earlier at (row ∷ rows) more contests h =
     by (Ok contest) g first = ((first contest g).read, (first contest g).behind)
     by (Err rule) g first = absurd cc
 
--- the file says what the ballots behind them say
+-- the file says what the ballots after the contests say
 pub says-ballots : (n : ℕ) (asked : Option Id) (first : Fields) (rows : List Fields) (contests : List Contest) (chosen : Contest) → contest_count first ≡ Some n →
     contests_in n [] 2 rows ≡ Ok contests → audited_contest (asked_for contests asked) ≡ Ok chosen → length contests ≡ n → (more : List Fields) →
     ballots_from asked (first ∷ take n rows ++ more) ≡ then_on (ballots_after contests [] (2 + length contests) more) (λ ballots. Ok (file_of chosen ballots))
@@ -65,7 +65,7 @@ wants-audited contests audited found chosen there h = λ place contest at own.
     let same : slice_get contests audited ≡ Some contest = ap (slice_get contests) (sym (eqb-true place audited own)) ∙ at in
     ap (λ (c : Contest). has_audited_size c.candidates) (same_at contests audited contest chosen same there) ∙ audited-size found chosen h
 
--- ---- ballots behind them
+-- ---- ballots after the contests
 
 abbrev ballots-on : List Contest → List Ballot → ℕ → List Fields → Ballot → Result (List Ballot) (Refusal BRule)
 ballots-on contests earlier at rows ballot = ballots_after contests (earlier ++ ballot ∷ []) (at + 1) rows
@@ -101,7 +101,7 @@ refused-append contests earlier at (row ∷ rows) more fault h =
       by (Ok ballot) g again = again ballot g
       by (Err rule) g again = g
 
--- there is a ballot for each
+-- there is a ballot for each record
 pub ballots-length : (contests : List Contest) (earlier ballots : List Ballot) (at : ℕ) (rows : List Fields) →
     ballots_after contests earlier at rows ≡ Ok ballots → length ballots ≡ length earlier + length rows
 ballots-length contests earlier ballots at [] h =

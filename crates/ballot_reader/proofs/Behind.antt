@@ -1,4 +1,4 @@
--- The ballots behind the contests.
+-- The ballots after the contests.
 use Rattle.std.proofs.Common.{◌≡◌, ◌+◌, ◌∙◌, ◌++◌, ◌∷◌, [], ℕ, List, Option, Some, Result, Ok, length, map, drop, sym, ap}
 use Rattle.csv_rows.specs.Rows.{Fields}
 use Rattle.irv_base.specs.Names.{Id}
@@ -11,9 +11,9 @@ use Rattle.ballots.specs.declared.fault.BRule.{BRule}
 use Rattle.file_fault.specs.declared.fault.Fault.TheVariants.{Refused, Memory}
 use Rattle.ballot_reader.specs.declared.wanted.Wanted.{Wanted}
 
--- ---- one ballot after the other
+-- ---- ballot by ballot
 
--- behind these ballots the records are others, and then those from number at on; of the ballots this is kept
+-- the records after these ballots are other ballots, and then those from number at on; this is the data kept for the ballots
 pub record BallotsSoFar (contests : List Contest) (wanted : Wanted) (earlier : List Ballot) (first : ℕ) (rows : List Fields) (ballots : List Ballot) (at : ℕ)
     (rest : List Fields) (kept : KeptBallots) : Type 0 where
   pub split : ballots_after contests earlier first rows ≡ ballots_after contests ballots at rest
@@ -64,7 +64,7 @@ pub all-read : (n : ℕ) (asked : Option Id) (rows rest : List Fields) (contests
 all-read n asked rows rest contests chosen ballots h s l e r =
     with-audited n asked rows contests chosen h s ∙ ap (λ said. then_on said (λ bs. Ok (file_of chosen bs))) (left n rows rest contests l e ∙ r)
 
--- ---- the whole of all contests
+-- ---- the whole, for all contests
 
 abbrev pub after_all : ℕ → List Fields → List Contest → List Contest → Result (List BallotFile) (Refusal BRule)
 after_all n rows contests audited =

@@ -1,4 +1,4 @@
--- Contests that are read one record after the other.
+-- Contests that are read record by record.
 use Rattle.std.proofs.Common.{◌≡◌, ◌<◌, ◌+◌, ◌-◌, ◌∙◌, ◌++◌, ◌∷◌, [], ◌||◌, ◌⊎◌, inl, inr, ℕ, zero, suc, Bool, true, false, not, List, Option, Some, None, Result, Ok, Err, length, drop, refl, sym, ap, subst, arith, length-append, codes}
 use Rattle.std.specs.Prelude.{if◌then◌else◌}
 use Rattle.std.specs.List.{list_any, slice_get}
@@ -96,7 +96,7 @@ pub contests-missing : (n : ℕ) (rows : List Fields) (contests : List Contest) 
     contests_in n [] 2 rows ≡ refused B2 (2 + i)
 contests-missing n rows contests i so_far less = so_far.split ∙ ap (λ m. contests_in m contests (2 + i) []) (next n i less)
 
--- ---- what holds of contests that are read
+-- ---- the properties of contests that have been read
 
 push-cases : {X : Type 0} (xs : List X) (x : X) (k : ℕ) (y : X) → slice_get (xs ++ x ∷ []) k ≡ Some y → (slice_get xs k ≡ Some y) ⊎ ((k ≡ length xs) × (x ≡ y))
 push-cases [] x zero y h = inr (refl, cc)
@@ -104,7 +104,7 @@ push-cases [] x (suc k) y h = absurd cc
 push-cases (z ∷ xs) x zero y h = inl h
 push-cases (z ∷ xs) x (suc k) y h = elim (push-cases xs x k y h) [ inl e ↦ inl e | inr e ↦ inr (ap suc e.0, e.1) ]
 
--- their ids differ, and they stand in the records from 2 on
+-- their ids differ, and they are in the records from 2 on
 pub record AreListed (contests : List Contest) (next : ℕ) : Type 0 where
   pub differ : all_differ (contest_ids contests) ≡ true
   pub numbered : (k : ℕ) (contest : Contest) → slice_get contests k ≡ Some contest → contest.at ≡ 2 + k

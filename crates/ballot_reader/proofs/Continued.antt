@@ -1,4 +1,4 @@
--- Ballots behind those that were read, and then others behind these.
+-- Ballots after those that were read, and then others after these.
 use Rattle.std.proofs.Common.{◌≡◌, ◌+◌, ◌∙◌, ◌++◌, ℕ, List, length, ap, arith}
 use Rattle.csv_rows.specs.Rows.{Fields}
 use Rattle.file_fault.specs.declared.fault.Fault.{Fault}
@@ -11,7 +11,7 @@ use Rattle.ballot_reader.proofs.Behind.{same-refusal}
 use Rattle.ballot_reader.proofs.Beginning.{ballots-append, ballots-length, refused-append}
 
 module _ (contests : List Contest) (wanted : Wanted) (first : ℕ) (rows more : List Fields) (old : KeptBallots) where
-  -- a refusal stands, whatever follows
+  -- a refusal remains, whatever follows
   pub refused-in-front : (fault : Fault BRule) → IsRefusedBehind contests wanted first rows old fault →
       IsRefusedBehind contests wanted first (rows ++ more) old fault
   refused-in-front fault refused = λ earlier up_to. refused-append contests earlier first rows more fault (refused earlier up_to)

@@ -1,4 +1,4 @@
--- All contests of a file are what each of them is by its id.
+-- Reading all contests of a file gives what reading each of them by its id gives.
 use Rattle.std.proofs.Common.{◌≡◌, ◌≤◌, ◌+◌, ◌∙◌, ◌++◌, ◌∷◌, [], ◌&&◌, ℕ, zero, suc, Bool, true, false, not, cond, List, Option, Some, None, Result, Ok, Err, length, map, drop, refl, sym, ap, subst, arith, leb-true, inl, inr}
 use Rattle.std.specs.Prelude.{find, if◌then◌else◌, nat_le, option_and_then}
 use Rattle.std.specs.List.{Contains, slice_get}
@@ -71,7 +71,7 @@ all-sized (c ∷ contests) h k contest there = by (has_audited_size c.candidates
   by true e g more zero at = let s : c ≡ contest = cc in ap (λ (x : Contest). has_audited_size x.candidates) (sym s) ∙ e
   by true e g more (suc k) at = more g k contest at
 
--- ---- ballots are refused behind the contests
+-- ---- ballots after the contests are refused
 
 refused-behind : (contests : List Contest) (earlier : List Ballot) (at : ℕ) (rows : List Fields) (refusal : Refusal BRule) →
     ballots_after contests earlier at rows ≡ Err refusal → at ≤ refusal.at

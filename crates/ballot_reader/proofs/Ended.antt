@@ -1,4 +1,4 @@
--- Nothing yet, and what is kept at the end.
+-- What is kept at the start, when nothing has been read, and what is kept at the end.
 use Rattle.std.proofs.Common.{◌≡◌, ◌≤◌, ◌<◌, ◌+◌, ◌∙◌, ◌++◌, ◌∷◌, [], ℕ, zero, suc, Bool, true, false, not, List, Option, Some, None, Ok, length, take, get_or, refl, sym, ap, arith, inl, inr}
 use Rattle.std.specs.Prelude.{All, IsTrue, filter, find, if◌then◌else◌}
 use Rattle.std.specs.List.{slice_get}
@@ -96,7 +96,7 @@ pub within-parts : (parts : List (Option KeptPart)) (contests : List Contest) (w
     parts ≡ parts_from 0 wanted ballots contests → k < length contests → k < length parts
 within-parts parts contests wanted ballots k e l = omega (arith, l, ap length e, length-parts 0 wanted ballots contests)
 
--- the part of a contest that is wanted
+-- the part of a contest that is asked for
 pub own-part : (contests : List Contest) (wanted : Wanted) (k : ℕ) (ballots : List Ballot) (kept : KeptBallots) (contest : Contest) →
     IsKept contests wanted ballots kept → is_wanted wanted k ≡ true → slice_get contests k ≡ Some contest →
     slice_get kept.parts k ≡ Some (Some (part_of (keeps_origins wanted) ballots contest))
@@ -119,7 +119,7 @@ all-wanted (c ∷ contests) all h = by (has_audited_size c.candidates) refl h (a
     at zero contest there w = let s : c ≡ contest = cc in ap (λ (x : Contest). has_audited_size x.candidates) (sym s) ∙ e
     at (suc k) contest there w = more g k contest there w
 
--- the contest with its ballots, where it is kept whence they come
+-- the contest with its ballots, if their origins are kept
 pub file-is : (contest : Contest) (ballots : List Ballot) (part : KeptPart) → part ≡ part_of true ballots contest →
     file_with contest part ≡ Some (file_of contest ballots)
 file-is contest ballots part e = ap (file_with contest) e

@@ -1,4 +1,4 @@
--- Contests that are taken one after the other with what is kept of their ballots.
+-- Contests that are taken one by one with the data kept for their ballots.
 use Rattle.std.proofs.Common.{true, ◌≡◌, ◌+◌, ◌∙◌, ◌++◌, ◌∷◌, [], ℕ, List, Option, Some, None, length, map, refl, sym, ap, subst, append_assoc}
 use Rattle.std.specs.List.{slice_get}
 use Rattle.std.proofs.lemmas.List.{append-nil, map-append}
@@ -8,7 +8,7 @@ use Rattle.ballot_reader.specs.Kept.{IsKept, KeptBallots, KeptPart, file_with, p
 use Rattle.ballot_reader.specs.declared.wanted.Wanted.TheVariants.{All as EachContest}
 use Rattle.ballot_reader.proofs.Ended.{file-is}
 
--- the contests are those whose files are made, and those that are left with what is kept of them
+-- the contests are those whose files have been made, followed by those that are left, with the data kept for them
 pub record FiledSoFar (contests : List Contest) (ballots : List Ballot) (left : List Contest) (parts : List (Option KeptPart))
     (files : List BallotFile) : Type 0 where
   pub earlier : List Contest
@@ -30,7 +30,7 @@ at-seam : {X : Type 0} (xs : List X) (x : X) (ys : List X) → slice_get (xs ++ 
 at-seam [] x ys = refl
 at-seam (y ∷ xs) x ys = at-seam xs x ys
 
--- the next contest stands among all, and its part is taken with it
+-- the next contest is one of the contests, and its part is taken together with it
 pub record IsNext (contests : List Contest) (ballots : List Ballot) (contest : Contest) (part : KeptPart) : Type 0 where
   pub place : ℕ
   pub there : slice_get contests place ≡ Some contest

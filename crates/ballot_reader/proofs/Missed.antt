@@ -1,4 +1,4 @@
--- A file that is read for all its contests is never refused by the rule on the contest that was asked for.
+-- A file that is read for all its contests is never refused by the rule about the contest that was asked for.
 use Rattle.std.proofs.Common.{◌≡◌, ◌+◌, ◌++◌, ◌∷◌, ◌||◌, [], ℕ, zero, suc, Bool, true, false, not, List, Option, Some, None, Result, Ok, Err, ap, drop, codes}
 use Rattle.std.specs.Prelude.{if◌then◌else◌, find, map, nat_lt, length}
 use Rattle.std.specs.List.{list_any}

@@ -1,4 +1,4 @@
--- Ballots that are read alone are those that are read behind others.
+-- Ballots that are read on their own are the same as those that are read after others.
 use Rattle.std.proofs.Common.{◌≡◌, ◌<◌, ◌≤◌, ◌+◌, ◌∙◌, ◌++◌, ◌∷◌, ◌||◌, ◌&&◌, ◌==◌, [], ℕ, zero, suc, Bool, true, false, not, List, Option, Some, None, Result, Ok, Err, length, map, nat_le, refl, sym, ap, ap₂, arith, append_assoc, length-append, leb-true}
 use Rattle.std.specs.Prelude.{nat_lt, if◌then◌else◌}
 use Rattle.std.specs.Cmp.Lexicographic.{bytes_decides}
@@ -39,7 +39,7 @@ pub length-moved : (at : ℕ) (bs : List Ballot) → length (moved at bs) ≡ le
 length-moved at [] = refl
 length-moved at (b ∷ bs) = ap suc (length-moved (at + 1) bs)
 
--- what doesn't hang on the record of a ballot stays as it was
+-- what doesn't depend on the record of a ballot stays as it was
 moved-in : {X : Type 0} (f : Ballot → X) → ((at : ℕ) (b : Ballot) → f (moved_to at b) ≡ f b) → (id : Id) (at : ℕ) (bs : List Ballot) →
     map f (ballots_in id (moved at bs)) ≡ map f (ballots_in id bs)
 moved-in f same id at [] = refl
@@ -93,7 +93,7 @@ named-bytes id h = all-small id (and_parts (has_name_length id && not (touches_s
 
 -- ---- a ballot that is read
 
--- It is of a contest that is listed, and its id is new there. It is read as well behind other ballots, where its id is new among those.
+-- Its contest is listed, and its id is new there. It can also be read after other ballots, if its id is new among them.
 record IsReadAs (contests : List Contest) (own : List Ballot) (row : Fields) (b : Ballot) : Type 0 where
   place : ℕ
   contest : Contest
@@ -123,7 +123,7 @@ read_at at x = Ok (moved_to at x)
 abbrev unless_met : Bool → Result Ballot BRule → Result Ballot BRule
 unless_met met said = if met then Err B9 else said
 
--- what is known where the id and the contest are found
+-- what is known once the id and the contest are found
 record IsJudgedAs (own : List Ballot) (id : Id) (preferences : Fields) (contest : Contest) (b : Ballot) : Type 0 where
   of : b.contest ≡ contest.id
   own_id : b.id ≡ id
@@ -192,7 +192,7 @@ read-as contests own m row b h = read-in contests own m row b (by (nat_lt (lengt
 abbrev ballots-on : List Contest → List Ballot → ℕ → List Fields → Ballot → Result (List Ballot) (Refusal BRule)
 ballots-on contests earlier at rows ballot = ballots_after contests (earlier ++ ballot ∷ []) (at + 1) rows
 
--- those that come later stand behind
+-- later ballots come after them
 begins : (contests : List Contest) (own all : List Ballot) (m : ℕ) (rows : List Fields) → ballots_after contests own m rows ≡ Ok all →
     (rest : List Ballot) × (all ≡ own ++ rest)
 begins contests own all m [] h =
@@ -206,7 +206,7 @@ begins contests own all m (row ∷ rows) h =
       by (Ok b) g more = let (rest, e) = more b g in (b ∷ rest, e ∙ append_assoc own (b ∷ []) rest)
       by (Err rule) g more = absurd cc
 
--- of each contest that is listed no id is met in both
+-- for each contest that is listed, no id is met in both
 abbrev pub AreOthers : List Contest → List Ballot → List Ballot → Type 0
 AreOthers contests xs ys =
     (place : ℕ) (contest : Contest) → slice_get contests place ≡ Some contest → (id : Id) → AreBytes id →
@@ -221,7 +221,7 @@ or-true true b c h = refl
 or-true false true c h = refl
 or-true false false c h = absurd (false≢true h)
 
--- a ballot is among those that begin so
+-- a ballot is among the ballots that begin with it and those before it
 met-among : (own : List Ballot) (b : Ballot) (rest all : List Ballot) → all ≡ (own ++ b ∷ []) ++ rest → is_among (ballot_ids b.contest all) b.id ≡ true
 met-among own b rest all e =
     let same = λ (other : Id). is_same other b.id in
@@ -305,7 +305,7 @@ read-bytes contests own all m (row ∷ rows) h own-bytes =
       by (Ok b) is g more = more b g (bytes-push own b own-bytes (read-as contests own m row b is).bytes)
       by (Err rule) is g more = absurd cc
 
--- so are those of a contest
+-- so are the ids of a contest
 pub among-bytes : (contest id : Id) (bs : List Ballot) → are_bytes bs ≡ true → is_among (ballot_ids contest bs) id ≡ true → AreBytes id
 among-bytes contest id [] h among = absurd cc
 among-bytes contest id (b ∷ bs) h among =

@@ -1,4 +1,4 @@
--- Names that are read one after the other.
+-- Names that are read one by one.
 use Rattle.std.proofs.Common.{◌≡◌, ◌<◌, ◌+◌, ◌-◌, ℕ, suc, take, subst, arith, ◌++◌, ◌∷◌, [], ◌∙◌, ◌&&◌, Bool, true, false, Some, None, List, refl, sym, ap, append_assoc, if◌then◌else◌}
 use Rattle.std.specs.List.{list_all}
 use Rattle.std.proofs.lemmas.Bool.{and_from}
@@ -34,7 +34,7 @@ pub names-invalid : (ids names : List Id) (field : Id) (rest : List Id) → Name
 names-invalid ids names field rest so_far invalid =
     ap names_of so_far.split ∙ rw (list_all-append is_name names (field ∷ rest), so_far.valid, invalid) refl
 
--- ---- the first so many fields, one after the other
+-- ---- the first n fields, one by one
 
 pub take-first : (n i : ℕ) (id : Id) (rest : List Id) → i < n → take (n - i) (id ∷ rest) ≡ id ∷ take (n - (i + 1)) rest
 take-first n i id rest less = let e : n - i ≡ suc (n - (i + 1)) = omega (arith, less) in ap (λ m. take m (id ∷ rest)) e

@@ -1,4 +1,4 @@
--- What is kept of ballots that are read alone, put behind what is kept of others.
+-- The data kept for ballots that are read on their own, put after the data kept for others.
 use Rattle.std.proofs.Common.{◌≡◌, ◌≢◌, ◌<◌, ◌≤◌, ◌+◌, ◌∙◌, ◌++◌, ◌∷◌, ◌||◌, [], ℕ, zero, suc, Bool, true, false, not, List, Option, Some, None, length, set, refl, sym, ap, ap₂, subst, arith, inl, inr, length-append, length-set}
 use Rattle.std.specs.Prelude.{All, IsTrue, if◌then◌else◌}
 use Rattle.std.specs.List.{slice_get}
@@ -45,7 +45,7 @@ differ-append (a ∷ own) its h g others =
 
 -- ---- the ids that were met
 
--- what is seen of the pages holds of the ids
+-- what the pages show is true of the ids
 pub others-apart : (contests : List Contest) (xs ys : List Ballot) (own its : List Noted) → AllNoted xs contests own → AllNoted ys contests its →
     AreMetApart own its → AreOthers contests xs ys
 others-apart contests xs ys own its noted more apart = λ place contest there id bytes among.
@@ -93,7 +93,7 @@ parts-are place wanted ballots (c ∷ contests) (p ∷ parts) l h =
     let e : place + suc k ≡ (place + 1) + k = omega arith in
     h (suc k) contest there ∙ ap (λ at. Some (wanted_part at wanted ballots contest)) e))
 
--- nothing is kept of a contest's ballots but their rankings
+-- only the rankings of a contest's ballots are kept
 abbrev votes_part : Option ℕ → List (List ℕ) → KeptPart
 votes_part counted rankings = record { origins = None; counted = counted; rankings = rankings }
 
@@ -161,7 +161,7 @@ kept-behind contests audited xs at rows old its new can met parts counted before
       },
     )
 
--- ---- one contest after the other
+-- ---- contest by contest
 
 set-there : {X : Type 0} (xs : List X) (k : ℕ) (x : X) → k < length xs → slice_get (set xs k x) k ≡ Some x
 set-there [] k x l = absurd (omega (arith, l))
@@ -182,7 +182,7 @@ set-same (a ∷ xs) zero x h =
     ap (λ y. y ∷ xs) (sym same)
 set-same (a ∷ xs) (suc k) x h = ap (λ ys. a ∷ ys) (set-same xs k x h)
 
--- the first so many are put together, and the others are as they were
+-- the first n are put together, and the others are as they were
 pub record SoFarTogether (X : Type 0) (Both : X → X → X → Type 0) (own its all : List X) (n : ℕ) : Type 0 where
   pub same : length all ≡ length own
   pub each : (place : ℕ) (before part both : X) → place < n → slice_get own place ≡ Some before → slice_get its place ≡ Some part →

@@ -1,4 +1,4 @@
--- A ballot file comes in pieces, and is read as far as it goes.
+-- A ballot file comes in pieces, and is read as far as possible.
 use Rattle.std.proofs.Common.{◌≡◌, ◌∙◌, ◌++◌, [], ℕ, List, Option, refl, sym, subst, append_assoc, length, false}
 use Rattle.std.proofs.lemmas.Bool.{false≢true}
 use Rattle.std.proofs.lemmas.List.{append-nil}
@@ -25,7 +25,7 @@ still-refused : (asked : Option Id) (bytes piece : List ℕ) (fault : Fault BRul
 still-refused asked bytes piece fault refused more =
     subst (λ (l : List ℕ). Refuses (ballots_of l asked) fault) (sym (append_assoc bytes piece more)) (refused (piece ++ more))
 
--- a piece is at hand, and nothing of it is read
+-- a piece is available, and nothing of it is read
 pub at_hand-more : (asked : Option Id) (holds : ℕ) (old new : AtHand) (bytes piece : List ℕ) (stage : Stage) →
     ((text : List ℕ) (given : List Fields) → IsBehind text given old → IsBehind (text ++ piece) given new) →
     HasTaken (record { asked = asked; holds = holds; at_hand = old; stage = stage }) bytes → HasTaken (record { asked = asked; holds = holds; at_hand = new; stage = stage }) (bytes ++ piece)
@@ -33,14 +33,14 @@ at_hand-more asked holds old new bytes piece Contests more (rows, behind, reache
 at_hand-more asked holds old new bytes piece (Ballots begun) more (rows, behind, reached) = (rows, more bytes rows behind, reached)
 at_hand-more asked holds old new bytes piece (Refused fault) more refused = still-refused asked bytes piece fault refused
 
--- how many bytes may wait for more tells nothing of what was taken
+-- the number of bytes that may wait for more says nothing about what was taken
 pub whatever-waits : (asked : Option Id) (holds others : ℕ) (at_hand : AtHand) (bytes : List ℕ) (stage : Stage) →
     HasTaken (record { asked = asked; holds = holds; at_hand = at_hand; stage = stage }) bytes → HasTaken (record { asked = asked; holds = others; at_hand = at_hand; stage = stage }) bytes
 whatever-waits asked holds others at_hand bytes Contests taken = taken
 whatever-waits asked holds others at_hand bytes (Ballots begun) taken = taken
 whatever-waits asked holds others at_hand bytes (Refused fault) taken = taken
 
--- records are read, and what is at hand stands behind them
+-- records are read, and the available part comes after them
 pub reached-here : (asked : Option Id) (holds : ℕ) (at_hand : AtHand) (bytes : List ℕ) (rows : List Fields) (stage : Stage) → IsBehind bytes rows at_hand →
     HasReached asked rows stage → HasTaken (record { asked = asked; holds = holds; at_hand = at_hand; stage = stage }) bytes
 reached-here asked holds at_hand bytes rows Contests behind reached = (rows, behind, reached)
@@ -48,7 +48,7 @@ reached-here asked holds at_hand bytes rows (Ballots begun) behind reached = (ro
 reached-here asked holds at_hand bytes rows (Refused fault) behind refused =
     λ more. subst (λ (l : List Fields). Refuses (ballots_from asked l) fault) (sym (behind.says more)) (refused (numbered_records (text_of at_hand ++ more)))
 
--- what isn't refused is read so far
+-- what isn't refused has been read so far
 pub has-read : (reader : VotesSoFar) (bytes : List ℕ) (stage : Stage) → reader.stage ≡ stage → ((fault : Fault BRule) → stage ≡ Refused fault → ⊥) →
     HasTaken reader bytes → HasRead reader bytes
 has-read reader bytes stage is going taken = by reader.stage (λ fault e. going fault (sym is ∙ e)) taken where
@@ -67,7 +67,7 @@ refused-more reader bytes piece fault is taken = by reader.stage is taken where
   by (Ballots begun) e taken = absurd cc
   by (Refused other) e taken = still-refused reader.asked bytes piece other taken
 
--- a file that is refused, of which nothing more comes
+-- a file that is refused, when nothing more of it comes
 pub refused-whole : (reader : VotesSoFar) (bytes : List ℕ) (fault : Fault BRule) → reader.stage ≡ Refused fault → HasTaken reader bytes →
     Refuses (ballots_of bytes reader.asked) fault
 refused-whole reader bytes fault is taken = by reader.stage is taken where

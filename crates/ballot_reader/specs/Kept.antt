@@ -1,4 +1,4 @@
--- What is kept of ballots that are read one record after the other.
+-- The data kept for ballots that are read record by record.
 use Rattle.std.specs.Prelude.{◌≡◌, ◌<◌, ◌≤◌, ◌+◌, ◌++◌, ◌∷◌, [], ◌==◌, ℕ, Bool, true, false, List, map, length, nat_lt, All, IsTrue, IfSome, Option, Some, None, option_map, Result, Err, if◌then◌else◌}
 use Rattle.std.specs.List.{slice_get}
 use Rattle.irv_base.specs.Candidates.{is_distinct}
@@ -18,27 +18,28 @@ use Rattle.ballot_reader.specs.declared.wanted.Wanted.TheVariants.{One, VotesOf,
 abbrev pub contest_ids : List Contest → List Id
 contest_ids contests = map (λ contest. contest.id) contests
 
--- ---- what is kept of one contest
+-- ---- the data kept for one contest
 
 -- where its ballots come from: the id of each, and the number of its record
 pub record KeptOrigins : Type 0 where
   pub ids : List Id
   pub places : List ℕ
 
--- where its ballots come from, if that is kept; for how many candidates they are counted as they come, if they are; and their rankings
+-- where its ballots come from, if that is kept; the number of candidates for which they are counted as they come, if they are; and their
+-- rankings
 pub record KeptPart : Type 0 where
   pub origins : Option KeptOrigins
   pub counted : Option ℕ
   pub rankings : List (List ℕ)
 
--- they are counted if their origin isn't kept and there are few candidates
+-- the ballots are counted if their origin isn't kept and there are few candidates
 abbrev pub counted_for : Bool → Contest → Option ℕ
 counted_for true contest = None
 counted_for false contest =
     if nat_lt ALWAYS_SUMMED (length contest.candidates) then None
     else Some (length contest.candidates)
 
--- if they are counted, it is for as many candidates as the contest has
+-- if they are counted, it is for the number of candidates that the contest has
 abbrev pub CountsOwn : Contest → KeptPart → Type 0
 CountsOwn contest part = IfSome part.counted (λ n. n ≡ length contest.candidates)
 
@@ -68,7 +69,7 @@ empty_part keeps contest = record {
   rankings = [];
 }
 
--- with a ballot more, of this id, in the record number at
+-- with one more ballot, which has this id and is in the record number at
 abbrev pub with_origin : KeptOrigins → Id → ℕ → KeptOrigins
 with_origin origins id at =
     record { ids = origins.ids ++ id ∷ []; places = origins.places ++ at ∷ [] }
@@ -98,7 +99,7 @@ pub record AreApart (ballots : List Ballot) (contest : Contest) : Type 0 where
       (rankings_in contest.id ballots)
   pub distinct : All (λ ranking. IsTrue (is_distinct ranking)) (rankings_in contest.id ballots)
 
--- ---- what is kept of all
+-- ---- the data kept for all
 
 -- the contest at a place is one of those that are asked for
 abbrev pub is_wanted : Wanted → ℕ → Bool
@@ -106,13 +107,13 @@ is_wanted (One only) place = place == only
 is_wanted (VotesOf only) place = place == only
 is_wanted EachContest place = true
 
--- it is kept whence the ballots come
+-- the origins of the ballots are kept
 abbrev pub keeps_origins : Wanted → Bool
 keeps_origins (One only) = true
 keeps_origins (VotesOf only) = false
 keeps_origins EachContest = true
 
--- for each contest the ids of its ballots were met
+-- for each contest, the ids of its ballots were met
 abbrev pub AllNoted : List Ballot → List Contest → List Noted → Type 0
 AllNoted ballots [] [] = Unit {0}
 AllNoted ballots [] (noted ∷ rest) = ⊥
@@ -120,20 +121,20 @@ AllNoted ballots (contest ∷ contests) [] = ⊥
 AllNoted ballots (contest ∷ contests) (noted ∷ rest) =
     AreNoted (ballot_ids contest.id ballots) noted × AllNoted ballots contests rest
 
--- a part for each contest that is asked for, the first of them being at this place
+-- a part for each contest that is asked for, where the first contest is at this place
 abbrev pub parts_from : ℕ → Wanted → List Ballot → List Contest → List (Option KeptPart)
 parts_from place wanted ballots [] = []
 parts_from place wanted ballots (contest ∷ contests) =
     (if is_wanted wanted place then Some (part_of (keeps_origins wanted) ballots contest) else None)
     ∷ parts_from (place + 1) wanted ballots contests
 
--- what is kept: which ids of each contest's ballots were met, a part for each contest that is asked for, and how many ballots there are
+-- what is kept: which ids of each contest's ballots were met, a part for each contest that is asked for, and the number of ballots
 pub record KeptBallots : Type 0 where
   pub met : List Noted
   pub parts : List (Option KeptPart)
   pub count : ℕ
 
--- it is what is kept of these ballots
+-- this is the data kept for these ballots
 pub record IsKept
     (contests : List Contest) (wanted : Wanted) (ballots : List Ballot)
     (kept : KeptBallots) : Type 0 where
@@ -146,13 +147,13 @@ pub record IsKept
 
 -- ---- the size of contests
 
--- each contest that is asked for has few enough candidates to be audited, and enough
+-- each contest that is asked for has neither too many nor too few candidates to be audited
 abbrev pub WantsAudited : List Contest → Wanted → Type 0
 WantsAudited contests wanted =
     (place : ℕ) (contest : Contest) → slice_get contests place ≡ Some contest →
     IsTrue (is_wanted wanted place) → IsTrue (has_audited_size contest.candidates)
 
--- so has each contest of which there is a part
+-- so does each contest that has a part
 abbrev pub KeepsAudited : List Contest → List (Option KeptPart) → Type 0
 KeepsAudited contests parts =
     (place : ℕ) (contest : Contest) (part : KeptPart) → slice_get contests place ≡ Some contest →
@@ -164,7 +165,7 @@ EachCountsOwn contests parts =
     (place : ℕ) (contest : Contest) (part : KeptPart) → slice_get contests place ≡ Some contest →
     slice_get parts place ≡ Some (Some part) → CountsOwn contest part
 
--- it is what is kept of these ballots, after which comes the record number at; the contests that are asked for can be audited
+-- this is the data kept for these ballots, and the record number at comes next; the contests that are asked for can be audited
 pub record IsKeptUpTo
     (contests : List Contest) (wanted : Wanted) (ballots : List Ballot) (at : ℕ)
     (kept : KeptBallots) : Type 0 where
@@ -172,7 +173,7 @@ pub record IsKeptUpTo
   pub sized : WantsAudited contests wanted
   pub numbered : at ≡ 2 + length contests + length ballots
 
--- the record number at is refused so; memory may always be wanting
+-- the record number at is refused in this way; memory may always run out
 abbrev pub RefusesRecord : {A : Type 0} → Result A BRule → ℕ → Fault BRule → Type 0
 RefusesRecord judged at (Refused rule place) = (judged ≡ Err rule) × (place ≡ at)
 RefusesRecord judged at Memory = Unit {0}

@@ -1,5 +1,5 @@
--- The laws of the grammar: a file of one contest that is spelled record by record is read as what it spells, and all contests of a
--- file are read as each of them is.
+-- The laws of the grammar. A file of one contest that is spelled record by record is read as what it spells. All contests of a file are
+-- read as each of them is.
 use Rattle.std.specs.Prelude.{◌≡◌, ◌≤◌, ℕ, List, [], ◌∷◌, map, length, slice_index_or, Option, Some, None, Result, Ok, Err, IsTrue, codes, decimal}
 use Rattle.std.specs.List.{Contains, list_all, range_with_len}
 use Rattle.csv_rows.specs.Fields.{numbered_records}
@@ -14,7 +14,7 @@ use Rattle.ballots.specs.declared.fault.BRule.TheVariants.{B1, B5}
 abbrev pub id_of : List Id → ℕ → Id
 id_of candidates c = slice_index_or candidates c []
 
--- each ballot is a record of the contest's id, its own, and the ids of the candidates that it ranks
+-- each ballot is a record of the contest's id, its own id, and the ids of the candidates that it ranks
 abbrev pub ballot_records : Id → List Id → List Id → List (List ℕ) → List Fields
 ballot_records contest candidates [] rankings = []
 ballot_records contest candidates (id ∷ ids) [] = []
@@ -63,8 +63,8 @@ pub record IsFirstRefusal
   pub first : (other : Contest) (later : Refusal BRule) → Contains contests other →
       said (Some other.id) ≡ Err later → refusal.at ≤ later.at
 
--- what is said of all contests is what is said of each by its id: the files in their order, or the first refusal. If the contests aren't
--- listed, it is that refusal
+-- What a file says of all contests is what it says of each by its id: the files in order, or the first refusal. If the contests aren't
+-- listed, it is the refusal of their list.
 abbrev pub IsOfEach :
     (Option Id → Result BallotFile (Refusal BRule)) → Result (List Contest) (Refusal BRule) →
     Result (List BallotFile) (Refusal BRule) → Type 0
@@ -78,6 +78,6 @@ abbrev pub ContestsAreEach : Type 0
 ContestsAreEach =
     (bytes : List ℕ) → IsOfEach (ballots_of bytes) (contests_listed bytes) (contests_of bytes)
 
--- no contest is missed of those that the file lists
+-- no contest that the file lists is missed
 abbrev pub NoneIsMissed : Type 0
 NoneIsMissed = (bytes : List ℕ) (at : ℕ) → contests_of bytes ≡ refused B5 at → ⊥

@@ -1,4 +1,4 @@
-// A ballot file of which the contests are read, and some ballots.
+// A ballot file whose contests have been read, and some of whose ballots have.
 ghost use Rattle.std.specs.Prelude.{◌≡◌, ◌++◌, List, Option, Ok, IfOk, IfErr, option_copied};
 ghost use Rattle.csv_rows.specs.Rows.{Fields as FieldList};
 ghost use Rattle.file_fault.specs.Refusals.{Refuses};
@@ -21,14 +21,14 @@ use std::alloc::Global;
 use std::marker::Model;
 use std::thread::Threads;
 
-/// The contests of a file, and the votes in those of its ballots that are read.
+/// The contests of a file, and the votes in the ballots that have been read.
 #[derive(Drop)]
 pub struct Begun {
-    // The contests, in their order.
+    // The contests, in order.
     contests: Vec<Contest>,
-    // The place of the one whose votes are kept, from 0.
+    // The place of the contest whose votes are kept, from 0.
     audited: usize,
-    // What is kept of the ballots.
+    // The data kept for the ballots.
     kept: Kept,
     // The number of the record that comes next, from 1.
     at: u32,
@@ -84,7 +84,7 @@ pub fn begin(
 }
 
 impl Begun {
-    /// Reads the ballots in the records that come next.
+    /// Reads the ballots in the next records.
     pub fn add(self, records: &mut Records<'_>) -> Result<Begun, BallotFault>
         ensures added { IfOk result (λ begun. (asked : Option Id) → (rows : List FieldList)
             → HasBegun asked rows self → HasBegun asked (rows ++ records.old.left) begun) }
@@ -107,7 +107,7 @@ impl Begun {
         })
     }
 
-    /// Reads the ballots in the lines that come next, by several workers if that pays.
+    /// Reads the ballots in the next lines, with several workers if that pays.
     pub fn add_lines<R: Threads + Sync>(
         self,
         rt: &R,
@@ -136,7 +136,7 @@ impl Begun {
         })
     }
 
-    /// The votes in the ballots that are read.
+    /// Returns the votes in the ballots that have been read.
     pub fn into_votes(self, alloc: Global) -> Result<Votes, Memory>
         ensures { IfOk result (λ votes. (asked : Option Id) → (rows : List FieldList)
             → HasBegun asked rows self → (file : BallotFile)

@@ -10,7 +10,7 @@ use irv_base::{Memory, Name};
 use std::alloc::Global;
 use std::marker::Model;
 
-/// A contest: the number of its record, its id, and those of its candidates.
+/// A contest: the number of its record, its id, and the ids of its candidates.
 #[derive(Drop)]
 pub struct Contest {
     /// The number of its record in the file, from 1.
@@ -38,7 +38,7 @@ fn is_contest_id(contests: &[Contest], id: &[u8]) -> bool
     contests.iter().any(|contest| contest.id.bytes() == id)
 }
 
-// The first n fields, if each of them is a name and all are different.
+// The first n fields, if each one is a name and all are different.
 fn names_of(alloc: Global, n: usize, fields: &mut Fields<'_>) -> Result<Option<Listed>, Memory>
     requires { n ≤ length fields.now }
     ensures { IfOk result (λ names. names ≡ names_of (take n fields.old)) }
@@ -58,7 +58,7 @@ fn names_of(alloc: Global, n: usize, fields: &mut Fields<'_>) -> Result<Option<L
     Ok(Some(names))
 }
 
-/// The contest of a record, or the first rule that the record breaks, after these contests.
+/// Returns the contest of a record, or the first rule that the record breaks, given the contests before it.
 pub fn contest_of(
     alloc: Global,
     earlier: &[Contest],

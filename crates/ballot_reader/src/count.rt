@@ -5,7 +5,7 @@ ghost use Rattle.ballots.specs.Grammar.{contest_count, number_up_to};
 use ballots::MOST_CONTESTS;
 use csv_rows::{Fields, number_of};
 
-/// The number from 1 to `most` that is written so.
+/// The number that is written this way, if it is from 1 to `most`.
 pub fn number_up_to(most: u32, text: &[u8]) -> Option<u32>
     ensures { result ≡ number_up_to most text.now }
 {

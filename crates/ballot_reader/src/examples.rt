@@ -1,4 +1,4 @@
-//! Worked examples, computed by the checker: what is on both sides of each limit of a ballot file, and how ids are distinguished.
+//! Worked examples, computed by the checker: what lies on both sides of each limit of a ballot file, and how ids are distinguished.
 ghost use Rattle.std.specs.Prelude.{◌≡◌, ◌+◌, ◌-◌, ◌%◌, ◌^◌, [], ◌∷◌, Some, None, true, false, codes, replicate};
 ghost use Rattle.irv_base.specs.declared.limits.TheConstants.{FEWEST_CANDIDATES, MOST_CANDIDATES};
 ghost use Rattle.ballots.specs.declared.limits.TheConstants.{MOST_LISTED};
@@ -29,7 +29,7 @@ pub fn audited()
     ensures over { has_audited_size (replicate (MOST_CANDIDATES + 1) []) ≡ false }
 {}
 
-/// Blank preferences are passed over, a repeated candidate counts at its first place, and an unknown one is none.
+/// Blank preferences are skipped, a repeated candidate counts at its first place, and an unknown candidate gives no ranking.
 pub fn rankings()
     ensures repeated { ranking_of (codes "A" ∷ codes "B" ∷ [])
         (codes "B" ∷ [] ∷ codes "A" ∷ codes "B" ∷ []) ≡ Some (1 ∷ 0 ∷ []) }
@@ -37,7 +37,8 @@ pub fn rankings()
     ensures unknown { ranking_of (codes "A" ∷ codes "B" ∷ []) (codes "C" ∷ []) ≡ None }
 {}
 
-/// The last two digits of an id are its bit, 4 * 16 + 2 here, and those before them its page: a hundred ids in order are on one page.
+/// The last two digits of an id give its bit, here 4 * 16 + 2, and the digits before them give its page, so a hundred ids in a row are on
+/// one page.
 pub fn pages()
     ensures bit { bit_of (counted (codes "A-0042")) ≡ 66 }
     ensures same { page_number (codes "A-0099") ≡ page_number (codes "A-0042") }

@@ -1,4 +1,4 @@
-// What is kept of the ballots that are read.
+// The data kept for the ballots that have been read.
 ghost use Rattle.std.specs.Prelude.{ℕ, ◌≡◌, ◌<◌, ◌++◌, ◌∷◌, [], All, List, Ok, Err, Some, None, IfOk, IfErr, IfSome, IsTrue, length, position, slice_get, slice_set, not, true, if◌then◌else◌};
 ghost use Rattle.irv_base.specs.Names.{Id, all_differ, is_among};
 ghost use Rattle.ballots.specs.Grammar.{Ballot, Contest as ContestRecord, ballot_for, ballot_in, ballot_of, has_id};
@@ -17,14 +17,14 @@ use irv_base::{MOST_RECORDS, Memory};
 use std::alloc::Global;
 use std::marker::Model;
 
-// The contest of a ballot by its place among the contests, and the ballot's id.
+// The contest of a ballot, by its place among the contests, and the ballot's id.
 #[derive(Drop)]
 struct Head<'r> {
     contest: usize,
     id: &'r [u8],
 }
 
-/// The place of the contest with that id, from 0. Most often it is the first, since few files have more.
+/// The place of the contest with that id, from 0. Usually it is the first, since few files have more than one.
 #[inline(always)]
 pub fn contest_place(contests: &[Contest], id: &[u8]) -> Option<usize>
     ensures place { result ≡ position (has_id id.now) contests.now }
@@ -40,10 +40,10 @@ pub fn contest_place(contests: &[Contest], id: &[u8]) -> Option<usize>
         .position(|contest| is_same(contest.id.bytes(), id))
 }
 
-/// Room for ballots is made when they come.
+/// Room for ballots is made as they come.
 pub const NO_ROOM: usize = 0;
 
-// The head of a ballot's record, or the first of the rules B6, B4 and B7 that it breaks. The fields that are left are the preferences.
+// The head of a ballot's record, or the first of the rules B6, B4 and B7 that it breaks. The fields that remain are the preferences.
 fn head_of<'r>(contests: &[Contest], fields: &mut Fields<'r>) -> Result<Head<'r>, BRule>
     ensures within { IfOk result (λ head. head.contest < length contests.now) }
     ensures follows { IfOk result (λ head. (earlier : List Ballot) → (at : ℕ)
@@ -65,16 +65,16 @@ fn head_of<'r>(contests: &[Contest], fields: &mut Fields<'r>) -> Result<Head<'r>
     Ok(Head { contest, id })
 }
 
-/// What is kept of ballots: which ids of each contest's were met, how many there are, and a part for each contest that is asked for.
+/// The data kept for ballots: which ids have been met in each contest, the number of ballots, and a part for each contest that is asked for.
 ///
 /// To a contract it is these three.
 #[derive(Drop)]
 pub struct Kept {
-    /// For each contest which ids of its ballots were met.
+    /// For each contest, which ids of its ballots have been met.
     pub met: Vec<Noted>,
-    /// For each contest what is kept of its ballots, if they are asked for.
+    /// For each contest, the data kept for its ballots, if they are asked for.
     pub parts: Vec<Option<Part>>,
-    /// How many ballots there are, of all contests.
+    /// The number of ballots in all contests.
     pub count: u32,
 }
 
@@ -94,7 +94,7 @@ impl Model for Kept {
     } };
 }
 
-// No id met in n contests.
+// No ids met in n contests.
 fn nothing_noted(alloc: Global, n: usize) -> Result<Vec<Noted>, Memory>
     ensures number { IfOk result (λ sets. length sets.items ≡ n) }
     ensures empty { IfOk result (λ sets. All (AreNoted []) sets.items) }
@@ -106,7 +106,7 @@ fn nothing_noted(alloc: Global, n: usize) -> Result<Vec<Noted>, Memory>
     Ok(sets)
 }
 
-// An empty part of the contest at a place, if it is asked for, with room for its share of this many ballots.
+// An empty part for the contest at a place, if it is asked for, with room for its share of this many ballots.
 fn part_for(
     alloc: Global,
     contests: &[Contest],
@@ -128,7 +128,7 @@ fn part_for(
     Ok(Some(Part::nothing(alloc, &contests[place], keeps, room)?))
 }
 
-// An empty part of each of these contests that is asked for.
+// An empty part for each of these contests that is asked for.
 fn no_parts(
     alloc: Global,
     contests: &[Contest],
@@ -145,7 +145,7 @@ fn no_parts(
     Ok(parts)
 }
 
-// Notes a ballot's id in the set at a place, unless it was there; answers whether it is new.
+// Notes a ballot's id in the set at a place unless it is already there. Returns whether it is new.
 fn note(sets: &mut Vec<Noted>, place: usize, id: &[u8]) -> Result<bool, Memory>
     requires { place < length sets.now.items }
     ensures new { IfOk result (λ new. (ids : List Id) → (noted : NotedIds)
@@ -161,7 +161,7 @@ fn note(sets: &mut Vec<Noted>, place: usize, id: &[u8]) -> Result<bool, Memory>
 }
 
 impl Kept {
-    /// Nothing, in these contests, with room for this many ballots of those that are asked for.
+    /// Nothing, for these contests, with room for this many ballots of those that are asked for.
     pub fn nothing(
         alloc: Global,
         contests: &[Contest],
@@ -178,7 +178,7 @@ impl Kept {
         })
     }
 
-    /// Judges the record number `at`, which is a ballot's and has these fields, and keeps what is to be kept of it.
+    /// Judges the record number `at`, which is a ballot's record with these fields, and keeps what it must of the ballot.
     pub fn add(
         &mut self,
         contests: &[Contest],

@@ -1,4 +1,4 @@
-// What is kept of ballots that are read side by side, put together.
+// Joins the data kept for ballots that are read side by side.
 ghost use Rattle.std.specs.Prelude.{◌≡◌, ◌<◌, ◌↔◌, Option, Some, OnOk, IsTrue, length, option_map, slice_get, slice_set};
 ghost use Rattle.ballot_ids.specs.Joined.{ArePagesApart};
 ghost use Rattle.ballot_reader.specs.Kept.{KeptPart};
@@ -10,7 +10,7 @@ use crate::part::Part;
 use ballot_ids::Noted;
 use irv_base::{MOST_RECORDS, Memory};
 
-// Whether it is seen of each contest that no id was met in both.
+// Whether the sets show for each contest that no id was met in both.
 fn are_apart(sets: &[Noted], others: &[Noted]) -> bool
     requires { length others.now ≡ length sets.now }
     ensures { IsTrue result ↔ AreMetApart sets.now others.now }
@@ -23,7 +23,7 @@ fn are_apart(sets: &[Noted], others: &[Noted]) -> bool
     true
 }
 
-// For how many candidates ballots are counted, if there is a part and they are.
+// The number of candidates for which ballots are counted, if there is a part and they are.
 fn form_of(part: &Option<Part>) -> Option<u32>
     ensures { result ≡ form_of part.now }
 {
@@ -33,7 +33,7 @@ fn form_of(part: &Option<Part>) -> Option<u32>
     }
 }
 
-// Whether of each contest ballots are counted in both, of as many candidates, or in neither.
+// Whether, for each contest, ballots are counted in both for the same number of candidates, or in neither.
 fn are_alike(parts: &[Option<Part>], others: &[Option<Part>]) -> bool
     requires { length others.now ≡ length parts.now }
     ensures { IsTrue result ↔ AreAlike parts.now others.now }
@@ -46,7 +46,7 @@ fn are_alike(parts: &[Option<Part>], others: &[Option<Part>]) -> bool
     true
 }
 
-// Puts the ids that were met elsewhere among those in the set at a place.
+// Adds the ids that were met elsewhere to the set at a place.
 fn join_at(sets: &mut Vec<Noted>, place: usize, other: &Noted) -> Result<(), Memory>
     requires within { place < length sets.now.items }
     requires apart { (own : NotedIds) → slice_get sets.now.items place ≡ Some own
@@ -59,7 +59,7 @@ fn join_at(sets: &mut Vec<Noted>, place: usize, other: &Noted) -> Result<(), Mem
     Ok(())
 }
 
-// Puts the ids that others have met of each contest among those that were met of it.
+// For each contest, adds the ids that the others have met to those that were already met.
 fn join_all(sets: &mut Vec<Noted>, others: &[Noted]) -> Result<(), Memory>
     requires each { length others.now ≡ length sets.now.items }
     requires apart { AreMetApart sets.now.items others.now }
@@ -102,7 +102,7 @@ fn put_at(parts: &mut Vec<Option<Part>>, place: usize, other: &Option<Part>) -> 
     }
 }
 
-// Puts each contest's part after another one of the same contest.
+// Puts the other part of each contest after its own part.
 fn put_all(parts: &mut Vec<Option<Part>>, others: &[Option<Part>]) -> Result<(), Memory>
     requires each { length others.now ≡ length parts.now.items }
     requires alike { AreAlike parts.now.items others.now }
@@ -120,8 +120,9 @@ impl Kept {
         self.met.iter().all(|met| met.elsewhere.is_empty())
     }
 
-    /// Whether what is kept of other ballots can be put after this: for each contest it is known that no id was met in both, ballots are
-    /// counted in both, for as many candidates, or in neither, and there aren't too many ballots.
+    /// Whether the data kept for other ballots can be put after this. That needs three things. For each contest it is known that no id was
+    /// met in both. For each contest, ballots are counted in both for the same number of candidates, or in neither. And there aren't too
+    /// many ballots.
     pub fn can_join(&self, part: &Kept) -> bool
         ensures { IsTrue result ↔ CanJoin self.now part.now }
     {
@@ -134,8 +135,8 @@ impl Kept {
         are_alike(&self.parts, &part.parts) && are_apart(&self.met, &part.met)
     }
 
-    /// Puts what is kept of ballots that were read alone after what is kept of others. If ids and places are kept, nothing is said of
-    /// them.
+    /// Puts the data kept for ballots that were read on their own after the data kept for others. If ids and places are kept, it says nothing
+    /// about them.
     pub fn join(&mut self, part: &Kept) -> Result<(), Memory>
         requires { CanJoin self.now part.now }
         ensures { OnOk result (IsKeptBehind self.old part.now self.new) }

@@ -1,17 +1,17 @@
-//! The laws of ballot files. None has code.
+//! The laws of ballot files. They have no code.
 ghost use Rattle.std.specs.Prelude.{◌≡◌};
 ghost use Rattle.ballot_reader.specs.Laws.{ContestsAreEach, NoneIsMissed, WhatIsSpelledIsRead};
 ghost use Rattle.ballots.specs.declared.limits.TheConstants as limit;
 ghost use Rattle.ballot_reader.specs.declared.stage.TheConstants as stage;
 ghost use Rattle.ballot_reader.specs.declared.votes_reader.TheConstants as reader;
 
-/// What one contest and its ballots are spelled as, record by record, is read as them.
+/// The records that spell one contest and its ballots, record by record, are read as that contest and those ballots.
 pub fn what_is_spelled_is_read()
     ensures { WhatIsSpelledIsRead }
 {}
 
-/// All contests of a file are what each of them is by its id, in their order. The file is refused exactly if one of them is, and by the
-/// refusal that comes first. It is never refused by B5.
+/// Reading all contests of a file gives what reading each of them by its id gives, in order. The file is refused exactly if one of them is,
+/// and the refusal is the one that comes first. It is never refused by B5.
 pub fn contests_are_each()
     ensures each { ContestsAreEach }
     ensures none_missed { NoneIsMissed }

@@ -1,4 +1,4 @@
-// What is kept of the ballots of one contest.
+// The data kept for the ballots of one contest.
 ghost use Rattle.std.specs.Prelude.{ℕ, ◌≡◌, ◌<◌, ◌≤◌, ◌++◌, ◌∷◌, [], List, Option, Some, None, IfOk, IfSome, OnOk, IsTrue, is_some, length, option_map, slice_get, slice_set, if◌then◌else◌};
 ghost use Rattle.set_tallies.specs.declared.bag.TheConstants.{ALWAYS_SUMMED};
 ghost use Rattle.ballots.specs.Grammar.{has_audited_size, ranking_of};
@@ -33,7 +33,7 @@ impl Model for Origins {
 }
 
 impl Origins {
-    // None, with room for this many.
+    // No origins, with room for this many.
     fn nothing(alloc: Global, room: usize) -> Result<Origins, Memory>
         ensures { IfOk result (λ origins. origins ≡ no_origins) }
     {
@@ -43,7 +43,7 @@ impl Origins {
         })
     }
 
-    // Puts that of a ballot last.
+    // Appends the origin of a ballot.
     fn push(&mut self, id: &[u8], at: u32) -> Result<(), Memory>
         ensures { OnOk result (self.new ≡ with_origin self.old id.now at) }
     {
@@ -53,16 +53,16 @@ impl Origins {
     }
 }
 
-/// What is kept of the ballots of a contest.
+/// The data kept for the ballots of a contest.
 ///
-/// To a contract it is where they come from, for how many candidates they are counted, if they are, and their rankings.
+/// To a contract it is where they come from, the number of candidates for which they are counted (if they are), and their rankings.
 #[derive(Drop)]
 pub struct Part {
     /// Where the ballots come from, if that is kept.
     pub origins: Option<Origins>,
     /// The rankings, kept or counted.
     pub cast: Cast,
-    // Which candidate an id looks like. It saves time, and says nothing of the ballots.
+    // Which candidate an id looks like. It saves time, and says nothing about the ballots.
     guesses: Guesses,
 }
 
@@ -89,7 +89,7 @@ fn no_origins(alloc: Global, keeps: bool, room: usize) -> Result<Option<Origins>
     Ok(Some(Origins::nothing(alloc, room)?))
 }
 
-// Puts that of a ballot last, if origins are kept.
+// Appends the origin of a ballot, if origins are kept.
 fn keep_origin(origins: &mut Option<Origins>, id: &[u8], at: u32) -> Result<(), Memory>
     ensures { OnOk result (origins.new ≡ option_map (λ o. with_origin o id.now at) origins.old) }
 {
@@ -99,7 +99,7 @@ fn keep_origin(origins: &mut Option<Origins>, id: &[u8], at: u32) -> Result<(), 
     Ok(())
 }
 
-// For how many candidates the ballots of a contest are counted as they come, if they are.
+// The number of candidates for which the ballots of a contest are counted as they come, if they are.
 fn counted_for(contest: &Contest, keeps: bool) -> Option<u32>
     ensures same { result ≡ counted_for keeps contest.now }
     ensures few { IfSome result (λ n. n ≤ ALWAYS_SUMMED) }
@@ -130,8 +130,8 @@ impl Part {
         })
     }
 
-    // Keeps the ballot of this id with these preferences in the record number `at`, if they are candidates of the contest. It answers
-    // whether they are.
+    // Keeps the ballot with this id and these preferences, in the record number `at`, if the preferences are candidates of the contest.
+    // Returns whether they are.
     fn add(
         &mut self,
         contest: &Contest,
@@ -152,14 +152,14 @@ impl Part {
             .rank(contest.candidates.as_slice(), &self.guesses, preferences)
     }
 
-    /// For how many candidates the ballots are counted, if they are.
+    /// The number of candidates for which the ballots are counted, if they are.
     pub fn counted(&self) -> Option<u32>
         ensures { result ≡ self.now.counted }
     {
         self.cast.counted_of()
     }
 
-    /// Puts the rankings of another part after its own, which are counted if these are. Where ballots come from is left as it is.
+    /// Puts the rankings of another part after its own. They are counted if these are. The origins of the ballots stay as they are.
     pub fn append(&mut self, other: &Part) -> Result<(), Memory>
         requires { other.now.counted ≡ self.now.counted }
         ensures { OnOk result (self.new ≡ with_rankings self.old other.now.rankings) }
@@ -168,8 +168,8 @@ impl Part {
     }
 }
 
-/// Keeps the ballot of this id with these preferences in the record number `at` in the part at the place of its contest, if there is one.
-/// It answers whether the preferences are candidates of the contest.
+/// Keeps the ballot with this id and these preferences, in the record number `at`, in the part at the place of its contest, if there is
+/// one. Returns whether the preferences are candidates of the contest.
 pub fn keep(
     parts: &mut Vec<Option<Part>>,
     place: usize,

@@ -1,4 +1,4 @@
-// Reading a ballot file.
+// Reads a ballot file.
 ghost use Rattle.std.specs.Prelude.{◌≡◌, ◌<◌, ◌≤◌, ◌+◌, ◌∷◌, [], All, List, Option, Ok, Some, IfOk, IfErr, IfSome, IfNone, IsTrue, None, OnOk, false, length, map, drop, not, position, slice_get, option_copied};
 ghost use Rattle.csv_rows.specs.Rows.{Fields as FieldList};
 ghost use Rattle.irv_base.specs.Names.{Id, all_differ};
@@ -22,13 +22,14 @@ use csv_rows::{Records, without_mark};
 use irv_base::{FEWEST_CANDIDATES, MOST_CANDIDATES, MOST_RECORDS, Memory, Name};
 use std::alloc::Global;
 
-// The record of the first contest, counted from 1: the number of contests comes before it.
+// The record of the first contest, counted from 1. The number of contests comes before it.
 const FIRST_CONTEST: u32 = 2;
 
-// How many bytes a ballot's record has, or about that. Room is made for this many ballots first, and for more when they come.
+// The number of bytes in a ballot's record, roughly. Room is made for the number of ballots that this gives at first, and for more as
+// needed.
 const RECORD_BYTES: usize = 40;
 
-/// The contests in the next n records.
+/// Reads the contests in the next n records.
 pub fn contests_left(
     alloc: Global,
     n: u32,
@@ -111,7 +112,7 @@ fn unsized_place(contests: &[Contest]) -> Option<usize>
         .position(|contest| !has_audited_size(contest))
 }
 
-// Sees that all contests are of a size that can be audited.
+// Checks that all contests are of a size that can be audited.
 fn see_all_audited(contests: &[Contest]) -> Result<(), BallotFault>
     ensures audited { OnOk result (all_audited contests.now ≡ Ok contests.now) }
     ensures refused { IfErr result (Refuses (all_audited contests.now)) }
@@ -123,7 +124,7 @@ fn see_all_audited(contests: &[Contest]) -> Result<(), BallotFault>
     Err(BallotFault::at_record(BRule::B3, contest.at))
 }
 
-/// Keeps the ballots in the records that are left, the first of which has this number, and answers the number that comes next.
+/// Keeps the ballots in the remaining records, the first of which has this number, and returns the number that comes next.
 pub fn add_ballots(
     contests: &[Contest],
     kept: &mut Kept,
@@ -155,7 +156,7 @@ pub fn first_ballot(contests: &[Contest]) -> u32
     FIRST_CONTEST + contests.len() as u32
 }
 
-/// What is kept of the ballots in the records that are left.
+/// The data kept for the ballots in the remaining records.
 pub fn ballots_left(
     alloc: Global,
     contests: &[Contest],
@@ -177,7 +178,7 @@ pub fn ballots_left(
     Ok(kept)
 }
 
-// The list of a contest's candidates, without the order in which they are found.
+// The list of a contest's candidates, without the order in which they are looked up.
 fn candidates_of(alloc: Global, contest: &Contest) -> Result<Vec<Name>, Memory>
     ensures { IfOk result (λ candidates. candidates.items ≡ contest.now.candidates) }
 {
@@ -200,7 +201,7 @@ fn votes_of(alloc: Global, contest: Contest, cast: Cast) -> Result<Votes, Memory
     Ok(Votes::of(contest.id, candidates, cast))
 }
 
-// A contest with its ballots, whose origin is kept.
+// A contest with its ballots, whose origins are kept.
 fn ballots_with(alloc: Global, contest: Contest, part: Part) -> Result<Ballots, Memory>
     requires sized { IsTrue (has_audited_size contest.candidates) }
     requires listed { part.counted ≡ None }
@@ -217,7 +218,7 @@ fn ballots_with(alloc: Global, contest: Contest, part: Part) -> Result<Ballots, 
     Ok(Ballots::new(contest.id, candidates, rankings, ids, places))
 }
 
-// The contest at a place with what is kept of its ballots.
+// The contest at a place, with the data kept for its ballots.
 fn taken(mut contests: Vec<Contest>, place: usize, mut kept: Kept) -> (Contest, Part)
     requires within { place < length contests.items }
     requires kept { (wanted : WantedContests) × IsTrue (is_wanted wanted place)
@@ -234,7 +235,7 @@ fn taken(mut contests: Vec<Contest>, place: usize, mut kept: Kept) -> (Contest, 
     (contest, part)
 }
 
-// The contest at a place with the ballots that are kept.
+// The contest at a place, with the ballots that are kept.
 fn file_of(
     alloc: Global,
     contests: Vec<Contest>,
@@ -253,7 +254,7 @@ fn file_of(
     ballots_with(alloc, contest, part)
 }
 
-/// The contest at a place with the rankings of the ballots that are kept.
+/// The contest at a place, with the rankings of the ballots that are kept.
 pub fn votes_kept(
     alloc: Global,
     contests: Vec<Contest>,
@@ -273,7 +274,7 @@ pub fn votes_kept(
     votes_of(alloc, contest, part.cast)
 }
 
-// Each contest with the ballots that are kept, in the order of the file.
+// Each contest, with the ballots that are kept, in the order of the file.
 fn files_of(alloc: Global, contests: Vec<Contest>, kept: Kept) -> Result<Vec<Ballots>, Memory>
     requires sized { WantsAudited contests.items EachContest }
     requires kept { (ballots : List Ballot) × IsKept contests.items EachContest ballots kept }
@@ -292,7 +293,7 @@ fn files_of(alloc: Global, contests: Vec<Contest>, kept: Kept) -> Result<Vec<Bal
     Ok(files)
 }
 
-// The ballots in the records that are left, the next n of which are contests.
+// Reads the ballots in the remaining records, the next n of which are contests.
 fn ballots_behind(
     alloc: Global,
     n: u32,
@@ -312,7 +313,7 @@ fn ballots_behind(
     Ok(file_of(alloc, contests, audited, kept)?)
 }
 
-// The same as `ballots_behind` of all contests.
+// The same as `ballots_behind`, for all contests.
 fn contests_behind(
     alloc: Global,
     n: u32,
@@ -347,28 +348,28 @@ pub fn first_count(records: &mut Records<'_>) -> Result<u32, BallotFault>
     Err(BallotFault::at_record(BRule::B1, 1))
 }
 
-// For how many ballots room is made first.
+// The number of ballots for which room is made at first.
 fn room_for(bytes: &[u8]) -> usize {
     (bytes.len() / RECORD_BYTES).min(MOST_RECORDS as usize)
 }
 
-/// Reads a ballot file: the contest that is asked for, or the only one if none is.
+/// Reads a ballot file: the contest that is asked for, or the only one if none is asked for.
 ///
-/// The first record's first field is the number of contests, 1 to `MOST_CONTESTS`. That many contest records follow, each with the fields
+/// The first record's first field is the number of contests, 1 to `MOST_CONTESTS`. That many contest records follow. Each has the field
 /// `Contest`, the contest's id, the number of its candidates, 1 to `MOST_LISTED`, their ids, and further fields, which are ignored. Every
-/// other record is a ballot: the id of its contest, its own, and candidates' ids, the most preferred first. Blank preferences are
+/// other record is a ballot: the id of its contest, its own id, and the ids of candidates, the most preferred first. Blank preferences are
 /// skipped, and a repeated candidate counts at its first place.
 ///
-/// Spaces and tabs around a field are removed. If the only field of a record is then empty, it is skipped and has no number. A byte order
-/// mark at the front is removed.
+/// Spaces and tabs around a field are removed. If the only field of a record is then empty, the record is skipped and has no number. A byte
+/// order mark at the front is removed.
 ///
-/// It is refused by the first rule that a record breaks. B1 at 1: the number of contests isn't that. In a contest's record B2: it is
-/// missing, has fewer than three fields, doesn't begin with `Contest` or repeats a contest's id; B3: the number of candidates isn't that,
-/// or fewer ids follow; B4: an id is none, or a candidate is repeated. After the contests B5 at 1: the contest asked for isn't there, or
-/// none was asked for and there are several; B3 at its record: it doesn't have `FEWEST_CANDIDATES` to `MOST_CANDIDATES` candidates. In a
-/// ballot's record B10: it is one more than `MOST_RECORDS`; B6: it has fewer than two fields; B4: its id is none; B7: its contest isn't
-/// there; B9: an earlier ballot of this contest has its id; B8: a preference isn't a candidate of its contest. Ballots of other contests
-/// are judged in the same way and not kept.
+/// The file is refused by the first rule that a record breaks. B1 at 1: the number of contests isn't such a number. In a contest's record
+/// B2: it is missing, has fewer than three fields, doesn't begin with `Contest`, or repeats a contest's id; B3: the number of candidates
+/// isn't such a number, or fewer ids follow; B4: an id isn't one, or a candidate is repeated. After the contests B5 at 1: the contest asked
+/// for isn't there, or none was asked for and there are several; B3 at its record: it doesn't have `FEWEST_CANDIDATES` to `MOST_CANDIDATES`
+/// candidates. In a ballot's record B10: it is one more than `MOST_RECORDS`; B6: it has fewer than two fields; B4: its id isn't one; B7:
+/// its contest isn't there; B9: an earlier ballot of this contest has its id; B8: a preference isn't a candidate of its contest. Ballots of
+/// other contests are judged in the same way, but not kept.
 pub fn read_ballots(
     alloc: Global,
     bytes: &[u8],
@@ -383,10 +384,10 @@ pub fn read_ballots(
     ballots_behind(alloc, n, contest, room_for(bytes), &mut records)
 }
 
-/// Reads all contests of a ballot file, in their order there, each as `read_ballots` reads it by its id.
+/// Reads all contests of a ballot file, in the order of the file, each as `read_ballots` reads it by its id.
 ///
-/// It is refused exactly if `read_ballots` refuses one of them, with the refusal that comes first: by the rules that are given there,
-/// except B5, in whose place B3 is judged for all contests in their order.
+/// The file is refused exactly if `read_ballots` refuses one of them, and with the refusal that comes first. The rules are those given
+/// there, except that B3, judged for all contests in order, takes the place of B5.
 pub fn read_contests(alloc: Global, bytes: &[u8]) -> Result<Vec<Ballots>, BallotFault>
     ensures read { IfOk result (λ files. contests_of bytes.now ≡ Ok files.items) }
     ensures refused { IfErr result (Refuses (contests_of bytes.now)) }

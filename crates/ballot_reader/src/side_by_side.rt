@@ -1,10 +1,10 @@
 // Ballots in lines that several workers read side by side.
 //
-// The first part is read after what is kept, as one worker reads it. Each other part is read as if no ballot came before it, and then
-// added: tables are added up, rankings and pages of ids are joined. That no id is in two parts is known from the pages: those with one
-// number are for ids alike, and share no bit. If that can't be known, if a record is refused, or if there are too many ballots, the lines
-// of the part are read again in order, so a refusal is always the one that one worker finds. Starting and ending workers takes about a
-// millisecond, so parts of less than 3 MiB would take longer.
+// The first part is read after what is already kept, as one worker reads it. Each other part is read as if no ballot came before it, and is
+// then added: tables are added up, and rankings and pages of ids are joined. The pages show that no id is in two parts: pages with the same
+// number are for ids that are alike, and share no bit. If the pages can't show that, if a record is refused, or if there are too many
+// ballots, the lines of the part are read again in order. So a refusal is always the one that a single worker finds. Starting and ending
+// workers takes about a millisecond, so parts of less than 3 MiB would take longer.
 ghost use Rattle.std.specs.Prelude.{ℕ, ◌≤◌, List, IfOk, IfErr, IfSome, IsTrue, length};
 ghost use Rattle.std.specs.Thread.{IsSync};
 ghost use Rattle.irv_base.specs.Names.{all_differ};
@@ -27,10 +27,10 @@ use std::alloc::Global;
 use std::thread;
 use std::thread::Threads;
 
-// Fewer bytes of lines are read sooner than a thread is started for them.
+// Reading fewer bytes of lines than this takes less time than starting a thread for them.
 const FEWEST_BYTES: usize = 128 << 10;
 
-// What is kept of the ballots in these lines, as if none came before them. It is nothing if a record is refused.
+// The data kept for the ballots in these lines, as if none came before them. It is nothing if a record is refused.
 fn read_alone(
     alloc: Global,
     contests: &[Contest],
@@ -50,7 +50,7 @@ fn read_alone(
     }
 }
 
-// Keeps the ballots in these lines, which come after those that are kept, one after the other.
+// Keeps the ballots in these lines, which come after those that are already kept, in order.
 fn add_in_order(
     contests: &[Contest],
     kept: &mut Kept,
@@ -70,7 +70,7 @@ fn add_in_order(
     add_ballots(contests, kept, first, &mut records)
 }
 
-// The same by a worker that is started for it. This one waits: if it read, a worker that it has started might be put on its processor.
+// The same, by a worker that is started for it. The caller waits: if it read, a worker that it has started might be put on its processor.
 fn add_in_thread<R: Threads + Sync>(
     rt: &R,
     contests: &[Contest],
@@ -97,8 +97,8 @@ fn add_in_thread<R: Threads + Sync>(
     next
 }
 
-// Puts what was read alone of these lines after what is kept. If there is nothing of that kind, or it can't be put there, the lines are
-// read in order.
+// Puts what was read on its own from these lines after what is kept. If there is no such part, or it can't be put there, the lines are read
+// in order.
 fn put_behind(
     contests: &[Contest],
     audited: usize,
@@ -127,8 +127,8 @@ fn put_behind(
     add_in_order(contests, kept, first, lines)
 }
 
-// Keeps the ballots in the lines in front, the first of which is in the record number `first`, by this many workers. Meanwhile a further
-// one reads those after them, as if nothing came before them.
+// Keeps the ballots in the front lines, the first of which is in the record number `first`, with this many workers. Meanwhile another
+// worker reads the lines after them, as if nothing came before them.
 #[cycle(behind)]
 fn read_both<R: Threads + Sync>(
     rt: &R,
@@ -162,7 +162,7 @@ fn read_both<R: Threads + Sync>(
     thread::join_mut(rt, &mut read_behind, &mut read_front)
 }
 
-// Keeps the ballots in these lines, the first of which is in the record number `first`, by this many workers, and answers the number that
+// Keeps the ballots in these lines, the first of which is in the record number `first`, with this many workers. Returns the number that
 // comes next.
 #[cycle(behind)]
 fn add_parts<R: Threads + Sync>(
@@ -191,7 +191,7 @@ fn add_parts<R: Threads + Sync>(
     put_behind(contests, audited, kept, next?, part?, &behind)
 }
 
-// How many workers read these lines. If ids aren't all on pages, nothing can be put after them.
+// The number of workers that read these lines. If the ids aren't all on pages, nothing can be put after them.
 fn workers_for(kept: &Kept, lines: &PlainLines<'_>, workers: u32) -> usize {
     if workers <= 1 || !kept.are_paged() {
         return 1;
@@ -199,7 +199,7 @@ fn workers_for(kept: &Kept, lines: &PlainLines<'_>, workers: u32) -> usize {
     (workers as usize).min(lines.len() / FEWEST_BYTES)
 }
 
-/// Keeps the ballots in these lines, the first of which is in the record number `first`, and answers the number that comes next. If it
+/// Keeps the ballots in these lines, the first of which is in the record number `first`, and returns the number that comes next. If it
 /// pays, the workers read parts of the lines at the same time.
 pub fn add_lines<R: Threads + Sync>(
     rt: &R,

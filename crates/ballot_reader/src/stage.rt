@@ -1,4 +1,4 @@
-// How far a ballot file is read that comes in pieces.
+// How far a ballot file that comes in pieces has been read.
 ghost use Rattle.std.specs.Prelude.{◌≡◌, ◌<◌, ◌++◌, List, Option, Ok, true, false, length, IfOk, IfErr, IfSome, IfNone, option_copied, IsTrue};
 ghost use Rattle.csv_rows.specs.Fields.{numbered_records};
 ghost use Rattle.csv_rows.specs.Pieces.{StandApart};
@@ -19,16 +19,16 @@ use irv_base::{Memory, Name};
 use std::alloc::Global;
 use std::thread::Threads;
 
-/// At most this many bytes of whole lines at the front of a file are searched for its contests: while these aren't whole, they are looked
-/// at again with each piece.
+/// The maximum number of bytes of whole lines at the front of a file that are searched for its contests. As long as the contests aren't
+/// complete, these lines are looked at again with each piece.
 pub const MOST_OF_CONTESTS: usize = 4 << 20;
 
-/// How far a ballot file is read.
+/// How far a ballot file has been read.
 #[derive(Drop)]
 pub enum Stage {
-    /// Its contests aren't read yet.
+    /// Its contests haven't been read yet.
     Contests,
-    /// Its contests are read, and some of its ballots.
+    /// Its contests have been read, and some of its ballots.
     Ballots(Begun),
     /// It is refused.
     Refused(BallotFault),
@@ -47,7 +47,7 @@ fn added(begun: Begun, records: &mut Records<'_>) -> Result<Stage, Memory>
     }
 }
 
-// The same for those in these lines, by this many workers.
+// The same for the ballots in these lines, with this many workers.
 fn added_lines<R: Threads + Sync>(
     rt: &R,
     alloc: Global,
@@ -66,8 +66,8 @@ fn added_lines<R: Threads + Sync>(
     }
 }
 
-// Reads the contests at the front of a file's records, and the ballots after them. It is nothing if the contests can't be read: a record
-// of theirs is still to come, or one is refused. (The clause says no more than that a file of these records is refused.)
+// Reads the contests at the front of a file's records, and the ballots after them. It gives nothing if the contests can't be read because a
+// record of theirs is still to come or one is refused. (The clause says only that a file of these records is refused.)
 fn first_stage(
     alloc: Global,
     asked: Option<&Name>,
@@ -86,7 +86,8 @@ fn first_stage(
     }
 }
 
-// Reads lines that come next, and answers how far the file is read then. It is nothing if the contests aren't read yet and can't be.
+// Reads the next lines, and returns how far the file has been read then. It gives nothing if the contests haven't been read yet and can't
+// be.
 fn stage_behind<R: Threads + Sync>(
     rt: &R,
     alloc: Global,
@@ -112,18 +113,18 @@ fn stage_behind<R: Threads + Sync>(
     }
 }
 
-/// What a reading of the lines at hand comes to.
+/// The result of reading the available lines.
 #[derive(Drop)]
 pub struct Step {
-    /// How far the file is read.
+    /// How far the file has been read.
     pub stage: Stage,
-    /// Whether the whole lines at hand are read.
+    /// Whether the available whole lines have been read.
     pub read: bool,
 }
 
 impl Stage {
-    // Whether the whole lines at hand aren't read now: ballots wait if there are no more than this many bytes, and contests if there are
-    // more than are looked at. That any wait is no promise.
+    // Whether the available whole lines aren't read now. Ballots wait if there are no more than this many bytes, and contests wait if there
+    // are more than are looked at. There is no promise that any lines wait.
     fn waits(&self, pieces: &Pieces, holds: usize) -> bool
         ensures { IsTrue result → (asked : Option Id)
             → HoldsLittle asked holds pieces.now.lines self.now }
@@ -135,7 +136,8 @@ impl Stage {
         }
     }
 
-    /// Reads the whole lines at hand by this many workers, if that can be. Ballots may wait until more than `holds` bytes are at hand.
+    /// Reads the available whole lines with this many workers, if that is possible. Ballots may wait until more than `holds` bytes are
+    /// available.
     pub fn after<R: Threads + Sync>(
         self,
         rt: &R,
@@ -177,7 +179,7 @@ impl Stage {
         }
     }
 
-    // What is begun, if necessary by reading the contests from these records.
+    // What has begun, after reading the contests from these records if necessary.
     fn begun(
         self,
         alloc: Global,
@@ -199,7 +201,7 @@ impl Stage {
         }
     }
 
-    /// The votes of the contest, if these are the last records.
+    /// Returns the votes of the contest, if these are the last records.
     pub fn votes(
         self,
         alloc: Global,

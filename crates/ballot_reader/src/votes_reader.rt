@@ -19,20 +19,20 @@ use std::marker::Model;
 use std::mem;
 use std::thread::Threads;
 
-/// Several workers read ballots once more bytes of whole lines are at hand than these, or the file ends: with fewer they would be started
-/// too often. With more they might not be looked at (`csv_rows::MOST_AT_HAND`).
+/// Several workers read ballots once more than this many bytes of whole lines are available, or the file ends. With fewer bytes they would
+/// be started too often. With more, the bytes might not be looked at (`csv_rows::MOST_AT_HAND`).
 pub const SIDE_BY_SIDE: usize = 6 << 20;
 
-/// Reads the votes of a contest from a ballot file that comes in pieces, by one worker or by several. It keeps the lines of the file that
-/// aren't read yet: mostly the last one, and with several workers up to `SIDE_BY_SIDE` bytes of whole lines.
+/// Reads the votes of a contest from a ballot file that comes in pieces, with one worker or several. It keeps the lines of the file that
+/// haven't been read yet: usually the last one, and with several workers up to `SIDE_BY_SIDE` bytes of whole lines.
 ///
-/// It keeps everything that comes, and reads it at the end, from the first lines on that come with a double quote, or with a byte EF that
-/// is no byte order mark at the front. It also does so if the contests are refused, if they have more than `MOST_OF_CONTESTS` bytes with
-/// the lines that come in the same piece, or if one line, or the lines in one piece together with what waits, have more than `csv_rows`
+/// Once lines come with a double quote, or with a byte EF that is no byte order mark at the front, it keeps everything from those lines on
+/// and reads it at the end. It also does so if the contests are refused, if the contests and the lines that come in the same piece have
+/// more than `MOST_OF_CONTESTS` bytes, or if one line, or the lines in one piece together with what waits, have more bytes than `csv_rows`
 /// looks at (`MOST_AT_HAND`). Once a ballot is refused, nothing more is kept.
 ///
-/// To a contract it is the contest that is asked for, how many bytes of whole lines may wait for more, what is at hand of the file, and
-/// how far the file is read.
+/// To a contract it is the contest that is asked for, the number of bytes of whole lines that may wait for more, the available part of the
+/// file, and how far the file has been read.
 #[derive(Drop)]
 pub struct VotesReader<'r, R: Threads + Sync> {
     rt: &'r R,
@@ -61,7 +61,7 @@ impl<'r, R: Threads + Sync> Model for VotesReader<'r, R> {
     } };
 }
 
-// How many bytes of whole lines may wait for more before this many workers read them.
+// The number of bytes of whole lines that may wait for more before this many workers read them.
 fn held_by(workers: u32) -> usize
     ensures alone { workers ≤ 1 → result ≡ 0 }
     ensures most { result ≤ SIDE_BY_SIDE }
@@ -70,7 +70,7 @@ fn held_by(workers: u32) -> usize
 }
 
 impl<'r, R: Threads + Sync> VotesReader<'r, R> {
-    /// For the contest with this id, or for the only one, by this many workers. Nothing of the file came yet.
+    /// A reader for the contest with this id, or for the only one, with this many workers. Nothing of the file has come yet.
     pub fn new(rt: &'r R, alloc: Global, contest: Option<Name>, workers: u32) -> VotesReader<'r, R>
         ensures asked { result.asked ≡ contest }
         ensures alone { workers ≤ 1 → result.holds ≡ 0 }
@@ -89,7 +89,7 @@ impl<'r, R: Threads + Sync> VotesReader<'r, R> {
         }
     }
 
-    /// Takes the bytes that come next. Once memory was wanting, the file is refused for that. Once it is refused, nothing changes.
+    /// Takes the next bytes. Once memory has run out, the file is refused for that reason. Once the file is refused, nothing changes.
     pub fn take(&mut self, piece: &[u8]) -> Result<(), Memory>
         ensures asked { self.new.asked ≡ self.old.asked }
         ensures holds { self.new.holds ≡ self.old.holds }
@@ -130,7 +130,7 @@ impl<'r, R: Threads + Sync> VotesReader<'r, R> {
         self.take(&[])
     }
 
-    /// The votes of the contest, once the whole file came; or why it isn't read, as `read_ballots` says.
+    /// Returns the votes of the contest, once the whole file has come, or why it isn't read, as `read_ballots` says.
     pub fn into_votes(mut self) -> Result<Votes, BallotFault>
         ensures read { IfOk result (λ votes. (bytes : List ℕ) → HasTaken self.entry bytes
             → (file : BallotFile) × (ballots_of bytes self.entry.asked ≡ Ok file)

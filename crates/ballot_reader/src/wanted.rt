@@ -1,4 +1,4 @@
-// Which contests' ballots are kept, and what of them.
+// Which contests' ballots are kept, and which data is kept for them.
 ghost use Rattle.std.specs.Prelude.{◌≡◌};
 ghost use Rattle.ballot_reader.specs.Kept.{is_wanted, keeps_origins};
 
@@ -7,14 +7,14 @@ ghost use Rattle.ballot_reader.specs.Kept.{is_wanted, keeps_origins};
 pub enum Wanted {
     /// The contest at this place, from 0.
     One(usize),
-    /// The one at this place, without ids and places.
+    /// The contest at this place, without ids and places.
     VotesOf(usize),
-    /// Each contest.
+    /// Every contest.
     All,
 }
 
 impl Wanted {
-    /// Whether those of the contest at a place are.
+    /// Whether the ballots of the contest at a place are kept.
     pub fn has(self, place: usize) -> bool
         ensures { result ≡ is_wanted self place }
     {
@@ -24,14 +24,15 @@ impl Wanted {
         }
     }
 
-    /// Whether it is kept whence the ballots come: their ids and places.
+    /// Whether the origins of the ballots are kept: their ids and places.
     pub fn keeps_origins(self) -> bool
         ensures { result ≡ keeps_origins self }
     {
         !matches!(self, Wanted::VotesOf(_))
     }
 
-    // For how many ballots of the contest at a place room is made first, if there is room for this many of all these contests.
+    // The number of ballots of the contest at a place for which room is made at first, if there is room for this many ballots of all these
+    // contests.
     pub(crate) fn room(self, place: usize, contests: usize, room: usize) -> usize {
         match self {
             Wanted::One(only) | Wanted::VotesOf(only) if place == only => room,

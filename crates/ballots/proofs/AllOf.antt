@@ -1,4 +1,4 @@
--- `all_of`, and what comes in front of what it gives, one element after the other.
+-- `all_of`, and what comes in front of the values it gives, element by element.
 use Rattle.std.proofs.Common.{◌≡◌, List, [], ◌∷◌, ◌++◌, Option, Some, None, refl, sym, ap, ◌∙◌, append_assoc}
 use Rattle.std.specs.Prelude.{option_map, option_and_then}
 use Rattle.std.proofs.lemmas.List.{append-nil}

@@ -1,4 +1,4 @@
--- Preferences that are read one after the other.
+-- Preferences that are read one by one.
 use Rattle.std.proofs.Common.{◌≡◌, ◌++◌, ◌∷◌, [], ◌∙◌, ◌||◌, ◌==◌, ℕ, true, false, Option, Some, None, List, length, refl, sym, ap, inl, inr, arith}
 use Rattle.std.specs.Prelude.{option_map, is_some, filter}
 use Rattle.std.proofs.lemmas.Nat.Bits.{bit_at-zero}
@@ -50,7 +50,7 @@ chosen-known candidates preferences cs field rest so_far some known =
 abbrev pub RankedSoFar : List Id → List Id → List ℕ → List Id → Type 0
 RankedSoFar candidates preferences ranking rest = (cs : List ℕ) × ChosenSoFar candidates preferences cs rest × (ranking ≡ firsts cs)
 
--- a candidate more is put last, unless it is there
+-- one more candidate is appended, unless it is already there
 pub ranked-more : (candidates preferences : List Id) (field : Id) (c : ℕ) (rest : List Id) (old new : List ℕ) →
     RankedSoFar candidates preferences old (field ∷ rest)
     → (length field == 0) ≡ false → candidate_named candidates field ≡ Some c
@@ -76,7 +76,7 @@ ranked-unknown candidates preferences ranking field rest (cs, so_far, ranked) so
     ap (option_map firsts) (so_far ∙ ap (λ ids. behind cs (all_of (candidate_named candidates) ids)) (some-marked field rest some)
     ∙ behind-none (candidate_named candidates) cs field (marked rest) e)
 
--- ---- the ranking so far, which stands last among the rankings
+-- ---- the ranking so far, which is the last of the rankings
 
 has-none : (c : ℕ) → has 0 c ≡ false
 has-none c = ap (λ bit. bit == 1) (bit_at-zero c)
@@ -99,7 +99,7 @@ last-none candidates preferences old new e = record {
     all-behind None = refl
     all-behind (Some cs) = refl
 
--- a blank preference is passed over
+-- a blank preference is skipped
 pub last-blank : (candidates preferences : List Id) (old new : List (List ℕ)) (seen : ℕ) (field : Id) (rest : List Id) →
     IsLast candidates preferences old new seen (field ∷ rest) → (length field == 0) ≡ true → IsLast candidates preferences old new seen rest
 last-blank candidates preferences old new seen [] rest l blank = record {
@@ -110,7 +110,7 @@ last-blank candidates preferences old new seen [] rest l blank = record {
 }
 last-blank candidates preferences old new seen (b ∷ field) rest l blank = absurd (omega (arith, eqb-true (length (b ∷ field)) 0 blank))
 
--- so is a candidate who was seen
+-- so is a candidate who was already seen
 pub last-again : (candidates preferences : List Id) (old new : List (List ℕ)) (seen : ℕ) (field : Id) (rest : List Id) (c : ℕ) →
     IsLast candidates preferences old new seen (field ∷ rest) → (length field == 0) ≡ false → candidate_named candidates field ≡ Some c →
     has seen c ≡ true → IsLast candidates preferences old new seen rest
@@ -122,7 +122,7 @@ last-again candidates preferences old new seen field rest c l some e again = rec
   seen_all = l.seen_all;
 }
 
--- another is put last
+-- any other candidate is appended
 pub last-more : (candidates preferences : List Id) (old new longer : List (List ℕ)) (seen more : ℕ) (field : Id) (rest : List Id) (c : ℕ) →
     IsLast candidates preferences old new seen (field ∷ rest) → (length field == 0) ≡ false → candidate_named candidates field ≡ Some c →
     has seen c ≡ false →

@@ -1,4 +1,4 @@
--- The ranking of preferences has candidates of the contest alone, each once.
+-- The ranking of preferences has only candidates of the contest, each once.
 use Rattle.std.proofs.Common.{◌≡◌, ◌<◌, ◌∙◌, ◌∷◌, [], ◌&&◌, ◌||◌, ◌==◌, not, ℕ, Bool, true, false, List, Option, Some, None, length, refl, ap, inl, inr, subst}
 use Rattle.std.specs.Prelude.{All, filter, option_map, option_and_then, if◌then◌else◌}
 use Rattle.std.proofs.lemmas.Bool.{and_parts, cases_Bool, not-true}

@@ -14,7 +14,7 @@ pub record BallotFile : Type 0 where
   pub places : List ℕ
   pub rankings : List (List ℕ)
 
--- with these ids and places in place of its own
+-- with these ids and places instead of its own
 abbrev pub with_ids : BallotFile → List Id → List ℕ → BallotFile
 with_ids file ids places = record {
   contest = file.contest;
@@ -24,7 +24,7 @@ with_ids file ids places = record {
   rankings = file.rankings;
 }
 
--- what a file says without ids of ballots and without places
+-- what a file says, without the ids and places of ballots
 abbrev pub votes_with : Id → List Id → List (List ℕ) → BallotFile
 votes_with contest candidates rankings = record {
   contest = contest;

@@ -7,7 +7,7 @@ abbrev pub rankings_of : Cast → List (List ℕ)
 rankings_of (Listed rankings) = rankings
 rankings_of (Counted counting) = counting.rankings
 
--- of how many candidates they are counted, if they are
+-- the number of candidates for which they are counted, if they are
 abbrev pub counted_of : Cast → Option ℕ
 counted_of (Listed rankings) = None
 counted_of (Counted counting) = Some counting.n

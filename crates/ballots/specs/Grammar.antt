@@ -1,4 +1,4 @@
--- What a ballot file says, or why and at which place it is refused.
+-- What a ballot file says, or why it is refused and at which place.
 use Rattle.std.specs.Prelude.{ℕ, zero, suc, ◌+◌, Bool, true, false, not, ◌&&◌, ◌||◌, nat_le, nat_lt, if◌then◌else◌, List, [], ◌∷◌, ◌++◌, map, filter, find, take, drop, length, Option, Some, None, option_map, option_and_then, Result, Ok, Err, codes}
 use Rattle.std.specs.List.{list_all, list_any}
 use Rattle.csv_rows.specs.Fields.{numbered_records}
@@ -13,7 +13,7 @@ use Rattle.ballots.specs.declared.fault.BRule.{BRule}
 use Rattle.ballots.specs.declared.fault.BRule.TheVariants.{B1, B2, B3, B4, B5, B6, B7, B8, B9, B10}
 use Rattle.ballots.specs.declared.limits.TheConstants.{MOST_CONTESTS, MOST_LISTED}
 
--- what f gives for each element, if it gives something for all of them
+-- the values that f gives for the elements, if it gives one for each of them
 abbrev pub all_of : {A B : Type 0} → (A → Option B) → List A → Option (List B)
 all_of f [] = Some []
 all_of f (x ∷ xs) = option_and_then (λ y. option_map (λ ys. y ∷ ys) (all_of f xs)) (f x)
@@ -39,7 +39,7 @@ pub record Contest : Type 0 where
 abbrev pub has_id : Id → Contest → Bool
 has_id id contest = is_same contest.id id
 
--- this many of the ids, if there are as many
+-- this many ids from the front of the list, if there are that many
 abbrev pub listed : Option ℕ → List Id → Option (List Id)
 listed None ids = None
 listed (Some n) ids = if nat_le n (length ids) then Some (take n ids) else None
@@ -58,7 +58,7 @@ abbrev pub contest_with : ℕ → Id → Option (List Id) → Result Contest BRu
 contest_with at id None = Err B3
 contest_with at id (Some ids) = if is_name id then contest_named at id (names_of ids) else Err B4
 
--- the contest, or the first rule that its record breaks, after these contests
+-- the contest, or the first rule that its record breaks, given the contests before it
 abbrev pub contest_of : List Contest → ℕ → Fields → Result Contest BRule
 contest_of earlier at [] = Err B2
 contest_of earlier at (word ∷ []) = Err B2
@@ -67,7 +67,7 @@ contest_of earlier at (word ∷ id ∷ number ∷ ids) =
     if not (is_same word (codes "Contest")) || list_any (has_id id) earlier then Err B2
     else contest_with at id (listed (number_up_to MOST_LISTED number) ids)
 
--- after these contests come n more, the first of them in record number at; one that is missing is refused at the number after the last
+-- n more contests come after these, the first in record number at; a missing one is refused at the number after the last record
 abbrev pub contests_in : ℕ → List Contest → ℕ → List Fields → Result (List Contest) (Refusal BRule)
 contests_in zero earlier at rows = Ok earlier
 contests_in (suc n) earlier at [] = refused B2 at
@@ -93,13 +93,13 @@ abbrev pub has_audited_size : List Id → Bool
 has_audited_size candidates =
     nat_le FEWEST_CANDIDATES (length candidates) && nat_le (length candidates) MOST_CANDIDATES
 
--- the contest that was asked for, or its refusal: it isn't there, or has too few or too many candidates to be audited
+-- the contest that was asked for, or its refusal: it isn't there, or it has too few or too many candidates to be audited
 abbrev pub audited_contest : Option Contest → Result Contest (Refusal BRule)
 audited_contest None = refused B5 1
 audited_contest (Some contest) =
     if has_audited_size contest.candidates then Ok contest else refused B3 contest.at
 
--- ---- a ballot's record: the id of its contest, its own, and preferences, the most preferred first
+-- ---- a ballot's record: the id of its contest, its own id, and preferences, the most preferred first
 
 -- at is the number of its record
 pub record Ballot : Type 0 where
@@ -118,7 +118,7 @@ abbrev pub is_marked : Id → Bool
 is_marked [] = false
 is_marked (b ∷ rest) = true
 
--- blank preferences are passed over, and each candidate counts at its first place
+-- blank preferences are skipped, and each candidate counts at its first place
 abbrev pub ranking_of : List Id → Fields → Option (List ℕ)
 ranking_of candidates preferences =
     option_map firsts (all_of (candidate_named candidates) (filter is_marked preferences))
@@ -141,12 +141,12 @@ ballot_in contests earlier at (of ∷ id ∷ preferences) =
     if is_name id then ballot_for earlier at id preferences (contest_with_id contests of)
     else Err B4
 
--- the ballot, or the first rule that its record breaks, after these ballots
+-- the ballot, or the first rule that its record breaks, given the ballots before it
 abbrev pub ballot_of : List Contest → List Ballot → ℕ → Fields → Result Ballot BRule
 ballot_of contests earlier at row =
     if nat_lt (length earlier) MOST_RECORDS then ballot_in contests earlier at row else Err B10
 
--- after these ballots come those in the records from number at on
+-- these ballots, followed by those in the records from number at on
 abbrev pub ballots_after :
     List Contest → List Ballot → ℕ → List Fields → Result (List Ballot) (Refusal BRule)
 ballots_after contests earlier at [] = Ok earlier
@@ -156,7 +156,7 @@ ballots_after contests earlier at (row ∷ rows) =
 
 -- ---- the file
 
--- the ballots of one contest alone
+-- only the ballots of one contest
 abbrev pub file_of : Contest → List Ballot → BallotFile
 file_of contest ballots = record {
   contest = contest.id;
@@ -172,7 +172,7 @@ abbrev pub then_on :
 then_on (Ok value) more = more value
 then_on (Err refusal) more = Err refusal
 
--- after n contests the records are ballots
+-- the records after n contests are ballots
 abbrev pub ballots_behind : Option ℕ → Option Id → List Fields → Result BallotFile (Refusal BRule)
 ballots_behind None asked rows = refused B1 1
 ballots_behind (Some n) asked rows =
@@ -185,7 +185,7 @@ abbrev pub ballots_from : Option Id → List Fields → Result BallotFile (Refus
 ballots_from asked [] = refused B1 1
 ballots_from asked (first ∷ rows) = ballots_behind (contest_count first) asked rows
 
--- what a file says of the contest that is asked for, or of its only one if none is
+-- what a file says of the contest that is asked for, or of its only contest if none is asked for
 abbrev pub ballots_of : List ℕ → Option Id → Result BallotFile (Refusal BRule)
 ballots_of bytes asked = ballots_from asked (numbered_records bytes)
 
@@ -200,7 +200,7 @@ abbrev pub all_audited : List Contest → Result (List Contest) (Refusal BRule)
 all_audited contests =
     unless_unsized contests (find (λ contest. not (has_audited_size contest.candidates)) contests)
 
--- after n contests the records are ballots
+-- the records after n contests are ballots
 abbrev pub contests_behind : Option ℕ → List Fields → Result (List BallotFile) (Refusal BRule)
 contests_behind None rows = refused B1 1
 contests_behind (Some n) rows =
@@ -213,6 +213,6 @@ abbrev pub contests_from : List Fields → Result (List BallotFile) (Refusal BRu
 contests_from [] = refused B1 1
 contests_from (first ∷ rows) = contests_behind (contest_count first) rows
 
--- what a file says of each of its contests, in their order
+-- what a file says of each of its contests, in order
 abbrev pub contests_of : List ℕ → Result (List BallotFile) (Refusal BRule)
 contests_of bytes = contests_from (numbered_records bytes)

@@ -60,7 +60,7 @@ impl Ballots {
         }
     }
 
-    /// The contest and the rankings of its ballots alone, once more.
+    /// The same contest with only the rankings of its ballots, copied.
     pub fn votes(&self, alloc: Global) -> Result<Votes, Memory>
         ensures { IfOk result (λ votes. votes ≡ votes_of self.now) }
     {

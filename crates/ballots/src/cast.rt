@@ -1,8 +1,8 @@
 // The rankings of a contest's ballots.
 //
-// Up to `ALWAYS_SUMMED` candidates all that is ever asked of the rankings is a table and their number, so each ballot is counted where it
-// is read. With more candidates the table may never be made, so rankings are kept. They are also kept with ids and places, since cards
-// are linked to them.
+// With up to `ALWAYS_SUMMED` candidates, all that anyone ever asks of the rankings is a table and their number, so each ballot is counted
+// where it is read. With more candidates the table may never be made, so the rankings are kept. They are also kept when ids and places are,
+// since cards are linked to them.
 ghost use Rattle.std.specs.Prelude.{◌≡◌, ◌<◌, ◌≤◌, ◌++◌, ◌∷◌, [], ℕ, List, None, Some, All, IfOk, IfSome, OnOk, IsTrue, is_some, length};
 ghost use Rattle.irv_base.specs.Names.{all_differ};
 ghost use Rattle.irv_base.specs.declared.limits.TheConstants.{FEWEST_CANDIDATES, MOST_RECORDS, ROOM};
@@ -19,7 +19,7 @@ use set_tallies::{Counted, Counting};
 use std::alloc::Global;
 use std::thread::Threads;
 
-// For how many places a ballot room is made first, and for more when they come.
+// The number of places per ballot for which room is made at first. More room is made as needed.
 const PLACES_A_BALLOT: usize = 8;
 
 /// The rankings of the ballots of a contest.
@@ -27,7 +27,7 @@ const PLACES_A_BALLOT: usize = 8;
 pub enum Cast {
     /// Each is kept.
     Listed(Rankings),
-    /// Each is counted as it comes.
+    /// Each is counted as it is read.
     Counted(Counting),
 }
 
@@ -47,7 +47,7 @@ impl Cast {
         }
     }
 
-    /// For how many candidates they are counted, if they are.
+    /// The number of candidates for which they are counted, if they are.
     pub fn counted_of(&self) -> Option<u32>
         ensures { result ≡ counted_of self.now }
     {
@@ -57,7 +57,7 @@ impl Cast {
         }
     }
 
-    /// How many there are.
+    /// The number of rankings.
     pub fn len(&self) -> usize
         ensures { result ≡ length (rankings_of self.now) }
     {
@@ -67,7 +67,7 @@ impl Cast {
         }
     }
 
-    /// Puts the ranking of these preferences last, as `rank` does.
+    /// Appends the ranking of these preferences, as `rank` does.
     pub fn rank(
         &mut self,
         candidates: &[Name],
@@ -90,7 +90,7 @@ impl Cast {
         }
     }
 
-    /// Puts others of the same form last, in their order.
+    /// Appends others of the same form, in order.
     pub fn append(&mut self, others: &Cast) -> Result<(), Memory>
         requires { counted_of others.now ≡ counted_of self.now }
         ensures form { counted_of self.new ≡ counted_of self.old }
@@ -104,7 +104,7 @@ impl Cast {
         }
     }
 
-    /// The rankings, which are kept.
+    /// Returns the rankings, which are kept.
     pub fn into_rankings(self) -> Rankings
         requires { counted_of self ≡ None }
         ensures { result ≡ rankings_of self }
@@ -115,7 +115,7 @@ impl Cast {
         }
     }
 
-    /// The ballots of a contest with `n` candidates, counted by at most this many workers if they aren't yet.
+    /// Returns the ballots of a contest with `n` candidates, counted by at most this many workers if they aren't counted yet.
     pub fn counted<R: AllocGlobal + Threads + Sync>(
         &self,
         rt: &R,

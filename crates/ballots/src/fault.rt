@@ -47,5 +47,5 @@ impl Rule for BRule {
     }
 }
 
-/// Why a ballot file isn't read: the place is a record's number from 1, without the blank ones.
+/// Why a ballot file isn't read. The place is the number of a record, from 1, not counting blank ones.
 pub type BallotFault = Fault<BRule>;

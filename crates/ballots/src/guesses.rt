@@ -1,5 +1,5 @@
-// A guess at the place of an id among a few names. The guess is made of the id's look, its first four bytes and its last, times a factor.
-// Several factors are tried, until no two names share a guess. A wrong guess costs time only, so the table has no invariant.
+// A guess at the place of an id among a few names. The guess is made from the look of the id (its first four bytes and its last four),
+// times a factor. Several factors are tried until no two names share a guess. A wrong guess only costs time, so the table has no invariant.
 ghost use Rattle.std.specs.Prelude.{◌<◌, ◌≤◌, length};
 ghost use Rattle.irv_base.specs.declared.limits.TheConstants.{ROOM};
 ghost use Rattle.ballots.specs.declared.guesses.TheConstants.{GUESSES};
@@ -7,25 +7,25 @@ ghost use Rattle.ballots.specs.declared.guesses.TheConstants.{GUESSES};
 use ballot_ids::number_of_4;
 use irv_base::Name;
 
-// How many guesses there are. With this many, a factor by which no two names share one is soon found.
+// The number of guesses. With this many, a factor for which no two names share one is soon found.
 const GUESSES: usize = 256;
 
-// How many factors are tried. Each is the one before, times the first, which is odd.
+// The number of factors to try. Each is the one before it times the first, which is odd.
 const TRIES: usize = 200;
 
 const FIRST_FACTOR: u64 = 0x9E37_79B9_7F4A_7C15;
 
-// No name's place
+// A value that is no name's place
 const NOWHERE: u8 = u8::MAX;
 
-/// For each look that an id may have, the place of a name that has it. It is a guess: the caller compares.
+/// For each look that an id may have, the place of a name that has it. This is a guess, so the caller compares.
 #[derive(Drop)]
 pub struct Guesses {
     factor: u64,
     places: [u8; GUESSES],
 }
 
-// What an id looks like: its first bytes and its last, and how many there are if these are few.
+// What an id looks like: its first bytes and its last, and the number of bytes if there are few.
 #[inline(always)]
 fn look(id: &[u8]) -> u64 {
     let n = id.len();
@@ -39,7 +39,7 @@ fn look(id: &[u8]) -> u64 {
     bytes | (n as u64) << 24
 }
 
-// Which guess is made of an id: the highest bits of its look times the factor.
+// The guess for an id: the highest bits of its look times the factor.
 #[inline(always)]
 fn guess_of(factor: u64, id: &[u8]) -> usize
     ensures { result < GUESSES }
@@ -48,7 +48,7 @@ fn guess_of(factor: u64, id: &[u8]) -> usize
 }
 
 impl Guesses {
-    // No guesses, by a factor.
+    // No guesses, with this factor.
     fn nothing(factor: u64) -> Guesses {
         Guesses {
             factor,
@@ -56,7 +56,7 @@ impl Guesses {
         }
     }
 
-    // Puts the places of these names in, and answers whether no two share a guess.
+    // Puts in the places of these names, and returns whether no two share a guess.
     fn put(&mut self, names: &[Name]) -> bool
         requires { length names.now ≤ ROOM }
     {

@@ -1,14 +1,14 @@
-// Ids, kept one after the other.
+// Ids, stored one after another.
 ghost use Rattle.std.specs.Prelude.{◌≡◌, ◌<◌, ◌++◌, ◌∷◌, [], Some, IfOk, OnOk, OnErr, length, slice_get};
 
 use irv_base::{Lists, Memory};
 use std::alloc::Global;
 use std::marker::Model;
 
-// How many bytes an id has, or about that. Room is made for this many first, and for more when they come.
+// The number of bytes that an id has, roughly. Room is made for this many at first, and for more as needed.
 const ID_BYTES: usize = 16;
 
-/// A list of ids. It takes as many bytes as they have, and four for each.
+/// A list of ids. It takes up as many bytes as the ids have, plus four for each.
 ///
 /// To a contract it is the list.
 #[derive(Drop)]
@@ -35,7 +35,7 @@ impl Ids {
         })
     }
 
-    /// How many there are.
+    /// The number of ids.
     pub fn len(&self) -> usize
         ensures { result ≡ length self.now }
     {
@@ -50,7 +50,7 @@ impl Ids {
         self.ids.at(i)
     }
 
-    /// Puts the id last. If more than `u32::MAX` bytes come before it, the answer is `Memory`.
+    /// Appends the id. If more than `u32::MAX` bytes come before it, the result is `Memory`.
     pub fn push(&mut self, id: &[u8]) -> Result<(), Memory>
         ensures pushed { OnOk result (self.new ≡ self.old ++ id.now ∷ []) }
         ensures same { OnErr result (self.new ≡ self.old) }

@@ -7,7 +7,8 @@ use irv_base::{Memory, Name};
 use std::alloc::Global;
 use std::marker::Model;
 
-/// Names, each once, as they came. They are kept in order too, and found there: the author of a file can't pick names that are slow to find.
+/// Names, each once, in the order they came. They are also kept sorted, and are looked up there, so the author of a file can't pick names
+/// that are slow to find.
 ///
 /// To a contract it is the list of the names.
 #[derive(Drop)]
@@ -38,14 +39,14 @@ impl Listed {
         }
     }
 
-    /// How many there are.
+    /// The number of names.
     pub fn len(&self) -> usize
         ensures { result ≡ length self.now }
     {
         self.names.len()
     }
 
-    /// The names, as they came.
+    /// The names, in the order they came.
     pub fn as_slice(&self) -> &[Name]
         ensures { result.now ≡ self.now }
     {
@@ -59,7 +60,7 @@ impl Listed {
         self.sorted.has(id)
     }
 
-    /// Puts a name last unless it is one of them, and answers whether it wasn't.
+    /// Appends a name unless it is one of them, and returns whether it was appended.
     pub fn put(&mut self, alloc: Global, name: Name) -> Result<bool, Memory>
         ensures new { IfOk result (λ new. new ≡ not (is_among self.old name)) }
         ensures put { IfOk result (λ new.

@@ -11,8 +11,8 @@ use ballot_ids::is_same;
 use csv_rows::Fields;
 use irv_base::{CandSet, Candidate, Memory, Name, Ranking, candidate_named};
 
-// The candidate with that id, first sought at its guessed place. It isn't inlined: the caller then has fewer instructions, but takes a
-// tenth longer.
+// The candidate with that id, looked up first at its guessed place. It isn't inlined: if it were, the caller would have fewer instructions,
+// but would take a tenth longer.
 #[inline(never)]
 fn candidate_of(candidates: &[Name], guesses: &Guesses, id: &[u8]) -> Option<Candidate>
     requires few { length candidates.now ≤ ROOM }
@@ -26,9 +26,9 @@ fn candidate_of(candidates: &[Name], guesses: &Guesses, id: &[u8]) -> Option<Can
     candidate_named(candidates, id)
 }
 
-/// Puts the ranking of these preferences last, as `ranking_of` gives it, and answers whether there is one. If there is none, what is put
-/// last is unknown. Guesses save time, and need candidates that are all different. It isn't inlined, since the processor has too few
-/// registers for both.
+/// Appends the ranking of these preferences, as `ranking_of` gives it, and returns whether there is one. If there is none, what is appended
+/// is unknown. Guesses save time, and need candidates that are all different. It isn't inlined, since the processor has too few registers
+/// for both.
 #[inline(never)]
 pub(crate) fn rank<T: RankingTaker>(
     candidates: &[Name],
@@ -63,8 +63,8 @@ pub(crate) fn rank<T: RankingTaker>(
     Ok(true)
 }
 
-/// The ranking of these preferences, if each that isn't blank is the id of one of a few candidates. A repeated candidate counts at
-/// its first place.
+/// The ranking of these preferences, if each one that isn't blank is the id of one of a few candidates. A repeated candidate counts at its
+/// first place.
 pub fn ranking_of(candidates: &[Name], preferences: Fields<'_>) -> Option<Ranking>
     requires { length candidates.now ≤ ROOM }
     ensures { result ≡ ranking_of candidates.now preferences.entry }
@@ -85,7 +85,7 @@ fn is_candidate(candidates: &Listed, id: &[u8]) -> bool
     candidates.has(id)
 }
 
-/// Each of these preferences that isn't blank is one of the candidates, of whom there may be many.
+/// Whether each of these preferences that isn't blank is one of the candidates. There may be many candidates.
 pub fn are_candidates(candidates: &Listed, preferences: Fields<'_>) -> bool
     ensures { result ≡ is_some (ranking_of candidates.now preferences.entry) }
 {

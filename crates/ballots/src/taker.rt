@@ -1,4 +1,4 @@
-// What takes the rankings of ballots as they are read.
+// What receives the rankings of ballots as they are read.
 ghost use Rattle.std.specs.Prelude.{◌≡◌, ◌<◌, ◌++◌, ◌∷◌, [], ℕ, List, OnOk, false};
 ghost use Rattle.irv_base.specs.Candidates.{is_in};
 ghost use Rattle.irv_base.specs.declared.limits.TheConstants.{ROOM};
@@ -6,20 +6,20 @@ ghost use Rattle.irv_base.specs.declared.limits.TheConstants.{ROOM};
 use irv_base::{Candidate, Memory, Rankings};
 use set_tallies::Counting;
 
-/// Rankings, each of which comes last and gets one candidate after the other.
+/// Rankings. Each one is added at the end and then receives its candidates one by one.
 pub trait RankingTaker {
     /// The rankings.
     ghost rankings: { Self → List (List ℕ) };
 
-    /// Candidates below this can be taken.
+    /// Candidates below this number can be added.
     ghost room: { Self → ℕ };
 
-    /// Puts a ranking without candidates last.
+    /// Appends a ranking without candidates.
     fn begin(&mut self) -> Result<(), Memory>
         ensures room { room self.new ≡ room self.old }
         ensures begun { OnOk result (rankings self.new ≡ rankings self.old ++ [] ∷ []) };
 
-    /// Puts a candidate who isn't in the last ranking at its end.
+    /// Adds a candidate who isn't in the last ranking to its end.
     fn lengthen(&mut self, c: Candidate) -> Result<(), Memory>
         requires below { c < room self.now }
         requires last { (earlier : List (List ℕ)) × (last : List ℕ)

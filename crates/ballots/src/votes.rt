@@ -12,11 +12,11 @@ use set_tallies::Counted;
 use std::marker::Model;
 use std::thread::Threads;
 
-/// A contest and the rankings of its ballots, without their ids and without their places in a file.
+/// A contest and the rankings of its ballots, without the ids of the ballots and without their places in a file.
 ///
-/// There are `FEWEST_CANDIDATES` to `MOST_CANDIDATES` candidates, all different, and at most `MOST_RECORDS` rankings. A ranking
-/// has candidates of this contest only, each as its place in `candidates`, from 0. Of up to `set_tallies::ALWAYS_SUMMED` candidates
-/// rankings may be counted, and not kept.
+/// There are `FEWEST_CANDIDATES` to `MOST_CANDIDATES` candidates, all different, and at most `MOST_RECORDS` rankings. A ranking has only
+/// candidates of this contest, each given by its place in `candidates`, from 0. With up to `set_tallies::ALWAYS_SUMMED` candidates,
+/// rankings may be counted rather than kept.
 ///
 /// To a contract it is what a ballot file says of it, with no ids and no places.
 #[derive(Drop)]
@@ -41,7 +41,7 @@ impl Model for Votes {
 }
 
 impl Votes {
-    /// The contest with this id, with candidates of these ids, from whom each of the rankings chooses.
+    /// The contest with this id and with candidates of these ids, from whom each of the rankings chooses.
     pub fn new(contest: Name, candidates: Vec<Name>, rankings: Rankings) -> Votes
         requires candidates { AreCandidates candidates.items }
         requires most { length rankings ≤ MOST_RECORDS }
@@ -51,7 +51,7 @@ impl Votes {
         Votes::of(contest, candidates, Cast::Listed(rankings))
     }
 
-    /// The same, if rankings may be counted.
+    /// The same, but the rankings may be counted.
     pub fn of(contest: Name, candidates: Vec<Name>, cast: Cast) -> Votes
         requires candidates { AreCandidates candidates.items }
         requires own { IfSome (counted_of cast) (λ n. n ≡ length candidates.items) }
@@ -84,7 +84,7 @@ impl Votes {
         self.candidates.as_slice()
     }
 
-    /// How many ballots there are.
+    /// The number of ballots.
     pub fn records(&self) -> u32
         ensures same { result ≡ length self.now.rankings }
         ensures most { result ≤ MOST_RECORDS }
@@ -92,7 +92,7 @@ impl Votes {
         self.cast.len() as u32
     }
 
-    /// The ballots, counted, by at most this many workers if they weren't counted as they were read.
+    /// The ballots, counted. At most this many workers count them if they weren't counted as they were read.
     pub fn counted<R: AllocGlobal + Threads + Sync>(
         &self,
         rt: &R,

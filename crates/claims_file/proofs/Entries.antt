@@ -1,4 +1,4 @@
--- What is said of an assertion whose members are there.
+-- What is said about an assertion whose members are there.
 use Rattle.std.proofs.Common.{◌≡◌, ℕ, true, false, List, Some, None, Err, refl, ap}
 use Rattle.std.specs.Prelude.{ok_or, Result}
 use Rattle.serde_json.specs.Data.{Data}

@@ -192,13 +192,13 @@ assertions-in (p ∷ planned) = ap (λ more. p.assertion ∷ more) (assertions-i
 
 -- ---- the file
 
--- the heading that keeps the rules is the one that is judged
+-- the heading that obeys the rules is the one that is judged
 kept-same : (h other : stated.Heading) → file.judged_heading h ≡ Ok other → h ≡ other
 unfolding file.judged_heading
 kept-same h other k = (all-hold (file.heading_rules h) h other k).1
 
 module _ (value : Data) (content : Content) where
-  -- the claims of the file's object are those that it says
+  -- the claims of the file's object are those that the file states
   abbrev Said : Type 0
   Said = claims_in content.contest content.candidates value ≡ Ok (claimed content)
 

@@ -1,4 +1,4 @@
--- What is said of a file whose own members are there.
+-- What is said about a file whose own members are there.
 use Rattle.std.proofs.Common.{◌≡◌, ◌∙◌, ℕ, Bool, true, false, List, length, Some, None, Ok, Err, refl, sym, ap, ap₂}
 use Rattle.std.specs.Prelude.{if◌then◌else◌, ok_or, Result}
 use Rattle.std.specs.List.{list_all}

@@ -1,4 +1,4 @@
--- The assertions of the values so far, and those of what is left.
+-- The assertions of the values so far, and the assertions of those that are left.
 use Rattle.std.proofs.Common.{◌≡◌, ℕ, ◌+◌, ◌<◌, List, [], ◌∷◌, ◌++◌, length, get_or, drop, map, Ok, Err, refl, ap, ◌∙◌, arith, append-nil, Result}
 use Rattle.std.proofs.lemmas.List.{drop_all, length-map, length-append}
 use Rattle.serde_json.specs.Data.{Data}

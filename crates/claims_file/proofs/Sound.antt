@@ -1,4 +1,4 @@
--- What is read as claims names candidates alone.
+-- What is read as claims names only candidates.
 use Rattle.std.proofs.Common.{◌≡◌, ◌∙◌, ℕ, ◌+◌, ◌<◌, true, List, [], ◌∷◌, length, All, Option, Some, None, Ok, Err, refl, sym, ap, subst, arith}
 use Rattle.std.specs.Prelude.{ok_or, IfOk, IsTrue, Result}
 use Rattle.std.proofs.lemmas.Bool.{not-true}

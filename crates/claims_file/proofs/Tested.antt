@@ -1,4 +1,4 @@
--- Claims that pass the tests of a guess, and those of an assertion file about the same contest.
+-- Claims that pass the tests of a guess, and the claims of an assertion file about the same contest.
 use Rattle.std.proofs.Common.{◌≡◌, true, List, [], ◌∷◌, All, ℕ}
 use Rattle.std.specs.List.{list_all}
 use Rattle.std.specs.Prelude.{IsTrue}

@@ -82,7 +82,7 @@ module _ (contest : Id) (ids : List Id) (claims : Claimed) where
   unfolding claims_value
   depth-claims = omega (arith, depth-assertions ids claims.assertions, depth-strings ids)
 
-  -- ---- the text, if the ids keep the rule of ids
+  -- ---- the text, if the ids obey the rule of ids
 
   module _ (named : is_name contest ≡ true) (names : list_all is_name ids ≡ true) where
     are_exact : IsExact (claims_value contest ids claims)

@@ -8,7 +8,7 @@ pub record Claimed : Type 0 where
   pub winner : ℕ
   pub assertions : List Assertion
 
--- of n candidates
+-- the claims are sound for n candidates
 pub record AreSound (n : ℕ) (claims : Claimed) : Type 0 where
   pub winner : claims.winner < n
   pub proper : All (λ a. IsTrue (is_proper n a)) claims.assertions

@@ -13,7 +13,8 @@ rule_name C3 = codes "C3"
 rule_name C4 = codes "C4"
 rule_name C5 = codes "C5"
 
--- the rule that an assertion breaks here if it breaks this one in an assertion file: its rest names others than candidates, or it is none
+-- the rule that an assertion breaks here if it breaks this one in an assertion file: its rest names someone who isn't a candidate, or isn't
+-- a rest
 abbrev pub as_claims_rule : FRule → CRule
 as_claims_rule F4 = C4
 as_claims_rule rule = C5

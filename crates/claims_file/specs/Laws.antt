@@ -6,13 +6,13 @@ use Rattle.assertion_file.specs.Reading.{assertion_file_of}
 use Rattle.claims_file.specs.Claimed.{Claimed, AreSound}
 use Rattle.claims_file.specs.Reading.{claims_of}
 
--- what is read names candidates alone
+-- what is read names only candidates
 abbrev pub ReadIsSound : Type 0
 ReadIsSound =
     (contest : Id) (ids : List Id) (bytes : List ℕ) (claims : Claimed) →
     claims_of contest ids bytes ≡ Ok claims → AreSound (length ids) claims
 
--- an assertion file is a claims file for its contest, which claims its assertions, whatever it says of their margins
+-- an assertion file is a claims file for its own contest and claims its assertions, whatever it says about their margins
 abbrev pub AssertionFileIsRead : Type 0
 AssertionFileIsRead =
     (bytes : List ℕ) (file : Content) → assertion_file_of bytes ≡ Ok file →

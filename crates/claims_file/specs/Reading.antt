@@ -1,4 +1,4 @@
--- What a claims file says of the contest with this id and these candidates, or which rule it breaks first, and at which place.
+-- What a claims file says of the contest with this id and these candidates, or which rule it breaks first and at which place.
 use Rattle.std.specs.Prelude.{ℕ, ◌+◌, Bool, not, List, [], ◌∷◌, length, ok_or, Result, Ok}
 use Rattle.std.specs.List.{list_all}
 use Rattle.serde_json.specs.Data.{Data}
@@ -15,7 +15,7 @@ use Rattle.claims_file.specs.Stated.{Heading, heading_in, Entry, entry_in}
 use Rattle.claims_file.specs.declared.fault.CRule.{CRule}
 use Rattle.claims_file.specs.declared.fault.CRule.TheVariants.{C1, C2, C3, C4}
 
--- ---- the members of the file's object, but for the elements of its assertions
+-- ---- the members of the file's object, except for the elements of its assertions
 
 -- the candidates are those of the contest, each once, in any order
 abbrev pub heading_rules : Id → List Id → Heading → List (Bool × CRule)
@@ -49,7 +49,7 @@ assertion_of ids value = do
 
 -- ---- the file
 
--- the assertions of a list of values, the first of which has the number at
+-- the assertions in a list of values, where the first value has the number at
 abbrev pub assertions_from : List Id → ℕ → List Data → Result (List Assertion) (Refusal CRule)
 assertions_from ids at [] = Ok []
 assertions_from ids at (value ∷ values) = do

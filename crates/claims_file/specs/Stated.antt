@@ -1,4 +1,4 @@
--- What a JSON value states: the members of the file's object, and those of an assertion.
+-- What a JSON value states: the members of the file's object, and the members of an assertion.
 use Rattle.std.specs.Prelude.{List, codes, Option, Some}
 use Rattle.serde_json.specs.Data.{Data}
 use Rattle.irv_base.specs.Names.{Id}

@@ -30,7 +30,7 @@ nen_members winner loser rest =
 abbrev pub nen_value : Id → Id → Data → Data
 nen_value winner loser rest = object_of (nen_members winner loser rest)
 
--- candidates by their ids, those of a rest in the contest's order
+-- candidates are given by their ids, and those of a rest are in the contest's order
 abbrev pub assertion_value : List Id → Assertion → Data
 assertion_value ids (Neb w l) = neb_value (id_of ids w) (id_of ids l)
 assertion_value ids (Nen w l rest) =

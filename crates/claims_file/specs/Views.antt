@@ -1,4 +1,4 @@
--- The members that were looked up in a value, as what they state.
+-- The members that were looked up in a value, seen as what they state.
 use Rattle.std.specs.Prelude.{map, option_map}
 use Rattle.serde_json.specs.View.{view}
 use Rattle.assertion_file.specs.Views.{stated_ids}

@@ -1,22 +1,23 @@
-// Assertions in the layout of `print_claims`. No clause says what is read of them: it is a guess.
+// Assertions in the layout of `print_claims`. No clause says what is read of them, so it is a guess.
 ghost use Rattle.std.specs.Prelude.{◌≡◌, ◌<◌, ◌≤◌, length, IfSome};
 ghost use Rattle.irv_base.specs.declared.limits.TheConstants.{ROOM};
 
 use assertions::Assertion;
 use irv_base::{CandSet, Candidate, Name, candidate_named};
 
-/// A claims file, as far as it isn't read.
+/// The part of a claims file that hasn't been read.
 #[derive(Drop)]
 pub struct AssertionsLeft<'a> {
     names: &'a [Name],
     left: &'a [u8],
-    // The winner and the loser of the assertion before: the next one most likely has the same, or those who follow.
+    // The winner and the loser of the previous assertion. The next assertion most likely has the same ones, or the candidates that follow
+    // them.
     w: Candidate,
     l: Candidate,
     ghost few: { length names.now ≤ ROOM },
 }
 
-// The candidate with that id, who is sought from this place on, and then from the front.
+// The candidate with that id, looked up from this place on, and then from the front.
 fn candidate_from(names: &[Name], from: usize, id: &[u8]) -> Option<Candidate>
     requires { length names.now ≤ ROOM }
 {
@@ -29,7 +30,7 @@ fn candidate_from(names: &[Name], from: usize, id: &[u8]) -> Option<Candidate>
 }
 
 impl<'a> AssertionsLeft<'a> {
-    /// The assertions that this text has, between candidates of these names.
+    /// The assertions in this text, between candidates with these names.
     pub fn new(names: &'a [Name], text: &'a [u8]) -> AssertionsLeft<'a>
         requires { length names.now ≤ ROOM }
     {
@@ -41,18 +42,18 @@ impl<'a> AssertionsLeft<'a> {
         }
     }
 
-    /// What isn't read.
+    /// The text that hasn't been read.
     pub fn text(&self) -> &'a [u8] {
         self.left
     }
 
-    /// Passes over these bytes, if they come next.
+    /// Skips these bytes, if they come next.
     pub fn pass(&mut self, bytes: &[u8]) -> Option<()> {
         self.left = self.left.strip_prefix(bytes)?;
         Some(())
     }
 
-    // The candidate whose id comes next, in quotes, and most likely is at this place of the list or soon after.
+    // Reads the next candidate, whose id is in quotes and is most likely at this place in the list or soon after it.
     fn candidate(&mut self, from: usize) -> Option<Candidate> {
         self.pass(b"\"")?;
         let end = self.left.iter().position(|b| *b == b'"')?;
@@ -62,7 +63,7 @@ impl<'a> AssertionsLeft<'a> {
         candidate_from(self.names, from, id)
     }
 
-    // The candidates whose ids come next, as a list.
+    // Reads a list of the ids of candidates.
     fn set(&mut self) -> Option<CandSet> {
         let mut set = CandSet::empty();
         let mut from = 0;
@@ -94,7 +95,7 @@ impl<'a> AssertionsLeft<'a> {
         self.set()
     }
 
-    /// The assertion that comes next.
+    /// Reads the next assertion.
     pub fn assertion(&mut self) -> Option<Assertion> {
         let is_neb = self.is_neb()?;
         let l = self.candidate(self.l.index())?;

@@ -3,7 +3,7 @@ use assertions::Assertion;
 use irv_base::Candidate;
 use std::marker::Model;
 
-/// What a claims file says of a contest: who has won it, and by which assertions. None of them is known to be true.
+/// What a claims file says of a contest: who won it, and by which assertions. None of the assertions is known to be true.
 ///
 /// To a contract it is the record of these values, with a list for the list.
 #[derive(Drop)]

@@ -10,13 +10,13 @@ use file_fault::{Fault, Rule};
 pub enum CRule {
     /// The bytes are JSON.
     C1,
-    /// Each member is there and of its kind.
+    /// Each member is there and of the right kind.
     C2,
-    /// The contest is the one of the ballots.
+    /// The contest is the contest of the ballots.
     C3,
-    /// The candidates are those of the contest, and so are those who are named.
+    /// The candidates are those of the contest, and so are the candidates who are named.
     C4,
-    /// A NEN's rest has each candidate once, and its winner and its loser.
+    /// The rest of a NEN has each candidate once, and has the winner and the loser.
     C5,
 }
 
@@ -34,10 +34,10 @@ impl Rule for CRule {
     }
 }
 
-/// Why a claims file isn't read: the place is an assertion's number from 1, or 0 for the file's own members.
+/// Why a claims file isn't read. The place is the number of an assertion, from 1, or 0 for the file's own members.
 pub type ClaimsFault = Fault<CRule>;
 
-/// The rule that an assertion breaks which breaks this rule of assertion files.
+/// The claims-file rule that an assertion breaks if it breaks this rule of assertion files.
 pub(crate) fn as_claims_rule(rule: FRule) -> CRule
     ensures { result ≡ as_claims_rule rule }
 {

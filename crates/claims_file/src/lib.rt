@@ -1,4 +1,4 @@
-//! The claims file: the assertions that somebody names for a contest, as a JSON text. What it says of their margins isn't read.
+//! The claims file: the assertions that somebody names for a contest, as a JSON text. What it says about their margins isn't read.
 #![tactic(auto)]
 
 mod assertions_left;

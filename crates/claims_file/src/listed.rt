@@ -50,7 +50,7 @@ fn assertion_at(names: &[Name], at: u64, value: &Value) -> Result<Assertion, Cla
     }
 }
 
-/// The assertions in order, or the first of them that breaks a rule.
+/// Returns the assertions in order, or the first one that breaks a rule.
 pub fn assertions(
     alloc: Global,
     names: &[Name],

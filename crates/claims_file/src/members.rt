@@ -1,4 +1,4 @@
-// The members of a JSON value that a claims file and its assertions need. No other one is looked at.
+// The members of a JSON value that a claims file and its assertions need. No other members are looked at.
 ghost use Rattle.std.specs.Prelude.{◌≡◌, option_map};
 ghost use Rattle.serde_json.specs.View.{view};
 ghost use Rattle.claims_file.specs.Stated.{heading_in, entry_in};
@@ -12,7 +12,7 @@ use serde_json::Value;
 pub struct Heading<'a> {
     /// Its assertions, each a value of any kind.
     pub assertions: &'a [Value],
-    /// The ids of the candidates, texts alone.
+    /// The ids of the candidates, all of them texts.
     pub candidates: &'a [Value],
     /// The contest's id.
     pub contest: &'a str,
@@ -27,11 +27,11 @@ pub struct Entry<'a> {
     pub winner: &'a str,
     /// The id of its loser.
     pub loser: &'a str,
-    /// For a NEN the ids of those left, all of them texts. A NEB has none.
+    /// For a NEN, the ids of the candidates left, all of them texts. A NEB has none.
     pub rest: Option<&'a [Value]>,
 }
 
-/// The members of a file, if all are there and of their kind.
+/// The members of a file, if all are there and of the right kind.
 #[tactic(auto, unfolding(crate::specs::Stated::heading_in))]
 pub fn heading_in(value: &Value) -> Option<Heading<'_>>
     ensures { option_map stated_heading result ≡ heading_in (view value.now) }
@@ -44,7 +44,7 @@ pub fn heading_in(value: &Value) -> Option<Heading<'_>>
     })
 }
 
-/// The members of an assertion, if all are there and of their kind.
+/// The members of an assertion, if all are there and of the right kind.
 #[tactic(auto, unfolding(crate::specs::Stated::entry_in))]
 pub fn entry_in(value: &Value) -> Option<Entry<'_>>
     ensures { option_map stated_entry result ≡ entry_in (view value.now) }

@@ -127,7 +127,7 @@ fn send_assertions<S: Serializer>(
     out.end_seq()
 }
 
-// The file as serde has it: members are sent to the writer one after the other, and no tree of them is built.
+// The file as serde sees it. Its members are sent to the writer one by one, and no tree of them is built.
 #[derive(Clone, Copy)]
 struct ClaimsForm<'f> {
     contest: &'f Name,
@@ -158,7 +158,7 @@ impl Serialize for ClaimsForm<'_> {
     }
 }
 
-/// The bytes of a claims file of this contest: one JSON object in compact form, its members in byte order, and a line feed.
+/// The bytes of a claims file for this contest: one JSON object in compact form, with its members in byte order, and a line feed.
 pub fn print_claims(
     alloc: Global,
     contest: &Name,
@@ -175,7 +175,7 @@ pub fn print_claims(
         names,
         claims,
     };
-    // Texts, lists and objects are refused for want of memory only.
+    // Texts, lists and objects are only refused for lack of memory.
     let Ok(mut bytes) = serde_json::to_vec(alloc, &form) else {
         return Err(Memory);
     };

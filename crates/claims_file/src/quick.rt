@@ -1,7 +1,7 @@
-// Reading a claims file without a tree of its values.
+// Reads a claims file without building a tree of its values.
 //
-// The bytes are taken for some that `print_claims` or `print_file` wrote. A guess is printed again, and the same bytes show that it is
-// right. If the layout is another one, or anything is in the way, there are no claims.
+// The bytes are assumed to be what `print_claims` or `print_file` wrote. A guess is printed again, and if that gives the same bytes, it is
+// right. If the layout is a different one, or anything else goes wrong, there are no claims.
 ghost use Rattle.std.specs.Prelude.{◌≡◌, ◌<◌, ◌≤◌, length, map, Ok, All, IfOk, IfSome, IsTrue};
 ghost use Rattle.std.specs.List.{list_all};
 ghost use Rattle.irv_base.specs.Names.{all_differ, is_among};
@@ -20,14 +20,14 @@ use std::alloc::Global;
 
 // ---- a claims file
 
-// Whether one of the names is that one.
+// Whether the name is one of the names.
 fn is_among(names: &[Name], name: &Name) -> bool
     ensures { result ≡ is_among names.now name.now }
 {
     names.iter().any(|other| other == name)
 }
 
-// Whether no name is there twice.
+// Whether no name occurs twice.
 fn all_differ(names: &[Name]) -> bool
     ensures { IsTrue result → IsTrue (all_differ names.now) }
 {
@@ -79,7 +79,7 @@ fn guessed_assertions<'a>(
 {
     let mut assertions = Vec::new(alloc);
     let mut left = AssertionsLeft::new(names, text);
-    // An assertion takes at least a byte.
+    // An assertion takes up at least one byte.
     for _ in text {
         assertions.push(left.assertion()?).ok()?;
         if left.pass(b"]").is_some() {
@@ -90,7 +90,7 @@ fn guessed_assertions<'a>(
     None
 }
 
-// The last place from which the text goes on with this part.
+// The last place at which the text continues with this part.
 fn last_place(text: &[u8], part: &[u8]) -> Option<usize>
     ensures { IfSome result (λ at. at ≤ length text.now) }
 {
@@ -102,7 +102,7 @@ fn last_place(text: &[u8], part: &[u8]) -> Option<usize>
     None
 }
 
-// Who may have won, by the members after the assertions.
+// The candidate who may have won, according to the members after the assertions.
 fn guessed_winner(names: &[Name], members: &[u8]) -> Option<Candidate>
     requires { length names.now ≤ ROOM }
     ensures { IfSome result (λ winner. winner < length names.now) }
@@ -127,7 +127,7 @@ fn guess(alloc: Global, names: &[Name], bytes: &[u8]) -> Option<Claims>
     Some(Claims { winner, assertions })
 }
 
-// The guess at what the bytes say, if it is printed as the same bytes.
+// The guess at what the bytes say, if printing it gives the same bytes.
 fn printed_as(alloc: Global, contest: &Name, names: &[Name], bytes: &[u8]) -> Option<Claims>
     requires { length names.now ≤ ROOM }
     ensures { IfSome result (λ claims. claims_of contest.now names.now bytes.now ≡ Ok claims) }
@@ -145,7 +145,7 @@ fn printed_as(alloc: Global, contest: &Name, names: &[Name], bytes: &[u8]) -> Op
 
 // ---- an assertion file
 
-// Whether the bytes begin and end as an assertion file does that was printed.
+// Whether the bytes begin and end like an assertion file that was printed.
 fn looks_printed(bytes: &[u8]) -> bool {
     bytes.starts_with(b"{\"assertions\":[{") && last_place(bytes, b",\"version\":").is_some()
 }
@@ -185,7 +185,7 @@ fn claims_of_file(alloc: Global, contest: &Name, names: &[Name], bytes: &[u8]) -
     })
 }
 
-/// What the bytes claim, if their layout is that of `print_claims`, or that of an assertion file that was printed.
+/// What the bytes claim, if their layout is that of `print_claims` or that of a printed assertion file.
 pub fn quick_claims(alloc: Global, contest: &Name, names: &[Name], bytes: &[u8]) -> Option<Claims>
     requires { length names.now ≤ ROOM }
     ensures { IfSome result (λ claims. claims_of contest.now names.now bytes.now ≡ Ok claims) }

@@ -1,8 +1,8 @@
-// Reading a claims file.
+// Reads a claims file.
 //
-// The bytes are first read in the quick way, which knows two layouts. Bytes in another one, and all that are refused, are judged from the
-// tree of their values, which takes many times as much memory as the text. So there is one grammar, and no refusal comes from the quick
-// way.
+// The bytes are first read in the quick way, which knows two layouts. Bytes in a different layout, and all bytes that are refused, are
+// judged from the tree of their values, which takes many times as much memory as the text. So there is one grammar, and no refusal comes
+// from the quick way.
 ghost use Rattle.std.specs.Prelude.{◌≡◌, ◌≤◌, Ok, length, IfOk, IfErr};
 ghost use Rattle.serde_json.specs.View.{view};
 ghost use Rattle.irv_base.specs.Orders.{is_order};
@@ -32,7 +32,7 @@ fn refused(rule: CRule) -> ClaimsFault
     ClaimsFault::Refused { rule, at: 0 }
 }
 
-// Whether the numbers have each of the candidates once.
+// Whether the numbers contain each of the candidates once.
 fn has_each(names: &[Name], numbers: &[u8]) -> bool
     requires some { 1 ≤ length names.now }
     requires few { length names.now ≤ ROOM }
@@ -44,7 +44,7 @@ fn has_each(names: &[Name], numbers: &[u8]) -> bool
     }
 }
 
-// Judges the file's own members by all rules but C2. The answer is the winner.
+// Judges the file's own members by all rules but C2. Returns the winner.
 fn winner_of(
     alloc: Global,
     contest: &Name,
@@ -117,20 +117,20 @@ fn read_tree(
     }
 }
 
-/// Reads a claims file for the contest of this id, whose candidates have these names.
+/// Reads a claims file for the contest with this id, whose candidates have these names.
 ///
-/// The bytes are one JSON object, with its members in any order. Members of other names are skipped, the margin of an assertion among
-/// them, and if a name is repeated the last one counts. Candidates may be listed in any order, and so may a NEN's rest; a NEB's isn't
-/// looked at. So an assertion file is a claims file too.
+/// The bytes are one JSON object, with its members in any order. Members with other names are skipped, including the margin of an
+/// assertion, and if a name is repeated, the last one counts. Candidates may be listed in any order, and so may the rest of a NEN; that of
+/// a NEB isn't looked at. So an assertion file is a claims file too.
 ///
-/// It is refused by the first rule that is broken. The file's own members are judged first, with place 0: by C1 if the bytes aren't JSON;
-/// by C2 if a member is missing or of another kind; by C3 if the contest is another one; by C4 if the candidates aren't those of the
-/// contest, each once, or the winner isn't one of them. Then comes each assertion, with its number from 1 as the place: C2 as above; C4 if
-/// one who is named isn't a candidate, or the winner is the loser; C5 if a NEN's rest repeats a candidate or lacks the winner or the
-/// loser.
+/// The file is refused by the first rule that is broken. The file's own members are judged first, with place 0: by C1 if the bytes aren't
+/// JSON; by C2 if a member is missing or of the wrong kind; by C3 if the contest is a different one; by C4 if the candidates aren't those
+/// of the contest, each once, or the winner isn't one of them. Then comes each assertion, with its number from 1 as the place: C2 as above;
+/// C4 if someone who is named isn't a candidate, or the winner is the loser; C5 if the rest of a NEN repeats a candidate or lacks the
+/// winner or the loser.
 ///
-/// Bytes in compact form, as `./raire import` writes them, and assertion files as `print_file` writes them, are read without a tree of
-/// their values.
+/// Bytes in compact form, as `./raire import` writes them, and assertion files as `print_file` writes them, are read without building a
+/// tree of their values.
 pub fn read_claims(
     alloc: Global,
     contest: &Name,

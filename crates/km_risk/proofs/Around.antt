@@ -1,4 +1,4 @@
--- Bounds of the exact risk of clean draws, and what they say of the printed risk.
+-- Bounds on the exact risk of clean draws, and what they say about the printed risk.
 use Rattle.std.proofs.Common.{◌≡◌, ◌∙◌, ℕ, zero, suc, ◌+◌, ◌-◌, ◌*◌, ◌/◌, ◌^◌, ◌<◌, ◌≤◌, min, Bool, true, false, nat_lt, ltb-true, Option, Some, None, MatchOption, List, [], length, map, replicate, nat_le, refl, sym, ap, subst, arith, inl, inr}
 use Rattle.std.proofs.Math.Nat.{mul-le-mul_left, mul-le-mul_right, mul-pos, le_of_mul-le-mul_right, le_trans, pow-zero, pow-succ'}
 use Rattle.std.proofs.lemmas.Nat.{mul-le, pow-add}
@@ -62,7 +62,7 @@ joined_few s x x1 x2 pos first second rounded =
     let both = mul-le x1 x2 s s first second in
     stays s s s x pos (omega arith) (omega arith)
 
--- ---- what bounds say of a risk, by the powers of the numerator and the denominator
+-- ---- what bounds say about a risk, using the powers of the numerator and the denominator
 
 above_by : (allowed s one least r u e : ℕ) → 0 < s → 0 < e → allowed * s < least * one → least * e ≤ s * u → one * u ≤ r * e → allowed < r
 above_by allowed s one least r u e pos_s pos_e above lower printed =
@@ -209,7 +209,7 @@ pub printed-none : (cards margin gamma : ℕ) → printed_risk cards margin gamm
 unfolding printed_risk
 printed-none cards margin gamma = refl
 
--- ---- what is least or never enough is the answer
+-- ---- what is smallest, or never enough, is the answer
 module _ (cards margin gamma limit : ℕ) where
   pub least-is : (n : ℕ) → IsLeast cards margin gamma limit n → clean_draws cards margin gamma limit ≡ Some n
   least-is n least = by (clean_draws cards margin gamma limit) (least_law cards margin gamma limit) where

@@ -1,4 +1,4 @@
--- The risk of draws as they come: up to the ceiling it is at least the exact one and near it, by an induction over the draws.
+-- The risk of draws in the order they come. Up to the ceiling it is at least the exact risk and near it, by induction over the draws.
 use Rattle.std.proofs.Common.{◌≡◌, ℕ, ◌+◌, ◌*◌, ◌^◌, ◌<◌, ◌≤◌, Bool, true, false, if◌then◌else◌, nat_le, nat_lt, List, [], ◌∷◌, ◌++◌, map, length, take, fold, Option, Some, None, IsTrue, refl, sym, ap, subst, ◌∙◌, arith, length-append, lt-ltb, ltb-true, ltb-false}
 use Rattle.std.proofs.Math.Nat.{mul-le-mul, mul-le-mul_right, pow-zero}
 use Rattle.std.proofs.lemmas.Bool.{leb-true, leb-false, le-leb}
@@ -23,7 +23,7 @@ use Rattle.km_risk.proofs.Sequences.{reach_law}
 abbrev walked : ℕ → (ℕ → ℕ) → ℕ → ℕ → ℕ
 walked u e r d = if nat_lt CEILING r then r else divided_up (r * u) (e d)
 
--- both sides of a risk r: a and b are the exact numerator and denominator, v is b times the factors of the overstated draws, j is the
+-- both sides of a risk r: a and b are the exact numerator and denominator, v is b times the factors of the overstated draws, and j is the
 -- number of draws
 record Sides (r a b v j : ℕ) : Type 0 where
   least : ONE * a ≤ r * b
@@ -34,7 +34,7 @@ record Sides (r a b v j : ℕ) : Type 0 where
 abbrev SidesAt : ℕ → (ℕ → ℕ) → List ℕ → ℕ → Type 0
 SidesAt u e ds r = Sides r (u ^ length ds) (product (map e ds)) (product (map (growing u e) ds)) (length ds)
 
--- some first draws have the same risk, with both sides; they are all of them where it is up to the ceiling
+-- some first draws have the same risk, with both sides; if it is up to the ceiling, they are all of the draws
 record Walk (u : ℕ) (e : ℕ → ℕ) (ds : List ℕ) : Type 0 where
   first : ℕ
   among : first ≤ length ds
@@ -72,7 +72,7 @@ module _ (u : ℕ) (e : ℕ → ℕ) (pos : (d : ℕ) → 0 < e d) (low : (d : �
   one_more : (ds : List ℕ) (d : ℕ) → length (ds ++ d ∷ []) ≡ length ds + 1
   one_more ds d = length-append ds (d ∷ [])
 
-  -- one draw more, where the risk before it is above the ceiling or isn't
+  -- one more draw, when the risk before it is above the ceiling or isn't
   walk_by : (ds : List ℕ) (d : ℕ) → Walk u e ds → (c : Bool) → nat_lt CEILING (fold (walked u e) ONE ds) ≡ c →
       walked u e (fold (walked u e) ONE ds) d ≡ (if c then fold (walked u e) ONE ds else divided_up (fold (walked u e) ONE ds * u) (e d)) →
       Walk u e (ds ++ d ∷ [])
@@ -117,7 +117,7 @@ module _ (u : ℕ) (e : ℕ → ℕ) (pos : (d : ℕ) → 0 < e d) (low : (d : �
   walk_of : (ds : List ℕ) → Walk u e ds
   walk_of ds = grows (Walk u e) walk_push [] ds walk_none
 
--- both sides, as they are told
+-- both sides, in the form of the law
 as_told : (cards margin gamma : ℕ) (ds : List ℕ) (r : ℕ) → SidesAt (numerator cards margin gamma) (denominator cards margin gamma) ds r →
     IsRiskOf cards margin gamma ds r
 as_told cards margin gamma ds r h =

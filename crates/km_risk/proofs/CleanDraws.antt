@@ -1,4 +1,4 @@
--- Clean draws: the search for the least number, and how their printed risk falls.
+-- Clean draws: the search for the smallest number, and how their printed risk falls.
 use Rattle.std.proofs.Common.{◌≡◌, ℕ, zero, suc, ◌+◌, ◌-◌, ◌*◌, ◌<◌, ◌≤◌, min, Bool, true, false, cond, Option, Some, None, MatchOption, IfSome, IsSomeAnd, List, [], ◌++◌, find, replicate, nat_le, refl, subst, add-one, ◌∙◌, arith, inl, inr}
 use Rattle.std.proofs.Math.Nat.{mul-le-mul_left, mul-le-mul_right}
 use Rattle.std.specs.List.{range_with_len}
@@ -18,21 +18,21 @@ use Rattle.km_risk.specs.Laws.{LeastLaw, MoreDrawsLaw, LargerMarginLaw, SameDraw
 pub in_order-clean : (n : ℕ) → in_order (clean n) ≡ replicate n 2
 in_order-clean n = let draws : List ℕ = replicate n 2 in append-nil (draws ++ []) ∙ append-nil draws
 
--- one clean draw more
+-- one more clean draw
 pub printed_risk-clean : (cards margin gamma n : ℕ) →
     printed_risk cards margin gamma (clean (n + 1)) ≡ step cards margin gamma (printed_risk cards margin gamma (clean n)) 2
 unfolding printed_risk
 printed_risk-clean cards margin gamma n =
     rw (in_order-clean (n + 1), in_order-clean n, replicate_next {X = ℕ} n 2) (fold_push (step cards margin gamma) ONE (replicate n 2) 2)
 
--- where the first number isn't within the limit, the search goes on behind it
+-- if the first number isn't within the limit, the search continues after it
 pub find_behind : (f : ℕ → ℕ) (limit n m : ℕ) → n < m → limit < f n →
     find (λ k. nat_le (f k) limit) (range_with_len n (m - n)) ≡ find (λ k. nat_le (f k) limit) (range_with_len (n + 1) (m - (n + 1)))
 find_behind f limit n m some above =
     let more : m - n ≡ suc (m - (n + 1)) = omega arith in
     rw (more, lt-leb (f n) limit above) refl
 
--- a search ends at the least number within the limit, or none is within it
+-- a search ends at the smallest number within the limit, or none is within it
 abbrev pub IsLeastFrom : (ℕ → ℕ) → ℕ → ℕ → ℕ → Option ℕ → Type 0
 IsLeastFrom f limit n m found =
     MatchOption found
@@ -58,7 +58,7 @@ pub find_least : (f : ℕ → ℕ) (limit n m : ℕ) → IsLeastFrom f limit n m
 find_least f limit n zero = λ k low high. absurd (omega arith)
 find_least f limit n (suc m) = least_step f limit n m _ (find_least f limit (n + 1) m) (nat_le (f n) limit) refl
 
--- the same from zero to the cards and to the most draws
+-- the same from zero up to the number of cards and the maximum number of draws
 abbrev IsLeastUpTo : (ℕ → ℕ) → ℕ → ℕ → Option ℕ → Type 0
 IsLeastUpTo f limit cards found =
     MatchOption found
@@ -140,7 +140,7 @@ module _ (cards margin larger gamma : ℕ) (some : 1 ≤ cards) (less : margin �
 pub same_draws_law : SameDrawsLaw
 same_draws_law cards margin larger gamma n some less smaller lasting = printed_risk_falls cards margin larger gamma some less smaller lasting n
 
--- what is least for a lower risk is no larger
+-- the smallest number for a lower risk is no larger
 lower_least : (f g : ℕ → ℕ) (limit cards : ℕ) → ((n : ℕ) → g n ≤ f n) → (found lower : Option ℕ) →
     IsLeastUpTo f limit cards found → IsLeastUpTo g limit cards lower → IfSome found (λ n. IsSomeAnd lower (λ k. k ≤ n))
 lower_least f g limit cards below None lower least least_lower = tt

@@ -1,4 +1,4 @@
--- Where the printed risk of draws is within the limit, so is their exact risk; and so few sequences ever have one within it.
+-- If the printed risk of draws is within the limit, so is their exact risk. So few sequences ever have a printed risk within it.
 use Rattle.std.proofs.Common.{◌≡◌, ℕ, ◌*◌, ◌<◌, ◌≤◌, min, Bool, true, false, ◌||◌, cond, List, [], ◌∷◌, ◌++◌, All, count_by, refl, sym, ◌∙◌, arith}
 use Rattle.std.proofs.Math.Bool.{or-true}
 use Rattle.std.proofs.Math.Nat.{mul-le-mul_right}

@@ -9,13 +9,13 @@ use Rattle.km_risk.specs.Factor.{numerator, denominator}
 use Rattle.km_risk.specs.Product.{millionths_in_one, product, is_within, reach}
 use Rattle.km_risk.specs.Laws.{ProductCountingLaw, CountingLaw}
 
--- a bound on each term is one on the sum
+-- a bound on each term gives a bound on the sum
 sum_within : (f e : ℕ → ℕ) (c k : ℕ) → ((d : ℕ) → f d * c ≤ k * e d) → (ds : List ℕ) → sum_by f ds * c ≤ k * sum_by e ds
 sum_within f e c k h [] = omega arith
 sum_within f e c k h (d ∷ ds) =
     rw (sum_by-cons f d ds, sum_by-cons e d ds) (let rest = sum_within f e c k h ds in let here = h d in omega arith)
 
--- a history that is within the limit, or else one whose continuations are bounded
+-- a history that is within the limit, or otherwise one whose continuations are bounded
 either_way : (w x all rest : ℕ) → rest * millionths_in_one * w ≤ x * all → (b : Bool) → b ≡ nat_le (w * millionths_in_one) x →
     (if b then all else rest) * millionths_in_one * w ≤ x * all
 either_way w x all rest h true e =
@@ -31,7 +31,7 @@ next_step s e m w u l n c b pos h mean =
     le_of_mul-le-mul_right scaled pos
 
 module _ (over limit : ℕ) (under : ℕ → ℕ) (values : List ℕ) (pos : 0 < over) (mean : sum_by under values ≤ length values * over) where
-  -- a history that isn't within the limit, from those with one draw more
+  -- a history that isn't within the limit, from the histories with one more draw
   counting_step : (n : ℕ) (h : List ℕ) →
       ((d : ℕ) → reach over under limit values (h ++ d ∷ []) n * millionths_in_one * over ^ length (h ++ d ∷ [])
       ≤ limit * product (map under (h ++ d ∷ [])) * length values ^ n) →

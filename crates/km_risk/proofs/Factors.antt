@@ -20,7 +20,7 @@ module _ (cards margin gamma : ℕ) (some : 1 ≤ cards) (smaller : margin ≤ c
   pub low_factor : (d : ℕ) → d ≤ 1 → denominator cards margin gamma d ≤ numerator cards margin gamma
   low_factor d h = let m = mul-le-mul_right cards h in omega arith
 
-  -- each other draw has one of at most one
+  -- every other draw has a factor of at most one
   pub high_factor : (d : ℕ) → 2 ≤ d → numerator cards margin gamma ≤ denominator cards margin gamma d
   high_factor d h = let m = mul-le-mul_right cards h in omega arith
 

@@ -25,7 +25,7 @@ module _ {X : Type 0} where
   prefix-member zero (c ∷ draws) = here
   prefix-member (suc k) (c ∷ draws) = there (member-map (λ next. c ∷ next) (prefix-member k draws))
 
--- lists none of whose elements stands twice
+-- lists in which no element occurs twice
 data Different {X : Type 0} : List X → Type 0 where
   none : Different []
   more : {x : X} {xs : List X} → (Member x xs → ⊥) → Different xs → Different (x ∷ xs)

@@ -27,7 +27,7 @@ product-in_order e c =
     )
     (omega arith)
 
--- one draw more
+-- one more draw
 weight_more : (e : ℕ → ℕ) (d : ℕ) → d ≤ 4 → (n0 n1 n2 n3 n4 : ℕ) →
     weight e (cond (d == 0) 1 0 + n0) (cond (d == 1) 1 0 + n1) (cond (d == 2) 1 0 + n2) (cond (d == 3) 1 0 + n3) (cond (d == 4) 1 0 + n4)
     ≡ e d * weight e n0 n1 n2 n3 n4
@@ -59,7 +59,7 @@ weight-counted e (d ∷ ds) h =
     )
     (sym (product-cons (e d) (map e ds)))
 
--- a product over draws is one over their counts
+-- a product over draws is a product over their counts
 pub product-counts_of : (e : ℕ → ℕ) (ds : List ℕ) → All (λ d. d ≤ 4) ds → product (map e (in_order (counts_of ds))) ≡ product (map e ds)
 product-counts_of e ds h = product-in_order e (counts_of ds) ∙ unfold counted in weight-counted e ds h
 

@@ -1,4 +1,4 @@
--- A product with a factor that was rounded down, in place of a division.
+-- A product with a factor that was rounded down, instead of a division.
 use Rattle.std.proofs.Common.{◌≡◌, ◌∙◌, ℕ, ◌+◌, ◌-◌, ◌*◌, ◌/◌, ◌<◌, ◌≤◌, sym, ap, subst, arith, inl, inr}
 use Rattle.std.specs.Prelude.{nat_lt}
 use Rattle.std.specs.Int.{from_bool}
@@ -11,7 +11,7 @@ use Rattle.km_risk.specs.Printed.{divided_up}
 quotient-most : (a b : ℕ) → 0 < b → a < (a / b + 1) * b
 quotient-most a b some = omega arith
 
--- f is u / e in units of an m-th, and q is r times that, both rounded down
+-- f is u / e in units of 1 / m, and q is r times that, both rounded down
 module _ (r u e f q m : ℕ) (some : 0 < e) (units : 0 < m) (few : r ≤ m)
     (f-least : f * e ≤ u * m) (f-most : u * m < (f + 1) * e) (q-least : q * m ≤ r * f) (q-most : r * f < (q + 1) * m) where
   -- so q isn't above the quotient of r * u by e
@@ -22,7 +22,7 @@ module _ (r u e f q m : ℕ) (some : 0 < e) (units : 0 < m) (few : r ≤ m)
       let c : q * e * m ≤ r * u * m = omega arith in
       le_of_mul-le-mul_right c units
 
-  -- and at most one below it
+  -- and it is at most one below the quotient
   not_far_below : r * u < q * e + 2 * e
   not_far_below = elim (cases_lt (r * u) (q * e + 2 * e)) [
     | inl below ↦ below
@@ -56,11 +56,11 @@ module _ (r u e f q m : ℕ) (some : 0 < e) (units : 0 < m) (few : r ≤ m) (f-i
   pub product-not_far_below : r * u < q * e + 2 * e
   product-not_far_below = not_far_below r u e f q m some units few f-least f-most q-least q-most
 
--- what is left then tells the quotient, rounded up
+-- what is left then gives the quotient, rounded up
 pub quotient-up : (x q e n b : ℕ) → x + e - 1 ≡ n * e + b → b < e → divided_up x e ≡ n
 quotient-up x q e n b is below = rw is (div-mul-add n e b below)
 
--- what is above the quotient is told by two looks at the rest
+-- two looks at the remainder show what is above the quotient
 pub corrected : (x q e rest some_left more_left : ℕ) → 0 < e → rest ≡ x - q * e → q * e ≤ x → x < q * e + 2 * e →
     some_left ≡ from_bool (nat_lt 0 rest) → more_left ≡ from_bool (nat_lt e rest) → q + some_left + more_left ≡ divided_up x e
 corrected x q e rest some_left more_left some rest-is least most some-is more-is =

@@ -1,4 +1,4 @@
--- The printed risk is at least the exact one, and not far above it: inductions over the chain, one draw more at a time.
+-- The printed risk is at least the exact risk, and not far above it: inductions over the chain, one more draw at a time.
 use Rattle.std.proofs.Common.{◌≡◌, ℕ, zero, suc, ◌+◌, ◌*◌, ◌^◌, ◌≤◌, ◌<◌, min, Bool, true, false, if◌then◌else◌, nat_le, List, [], ◌∷◌, ◌++◌, map, length, fold, replicate, refl, sym, subst, arith, length-append, append_assoc, inl, inr, ◌⊎◌}
 use Rattle.std.proofs.Math.Nat.{mul-le-mul_left, mul-le-mul_right, mul-le-mul, le_of_mul-le-mul_right, le_trans, min-le_left, min-le_right, pow-zero, pow-succ'}
 use Rattle.std.proofs.lemmas.Bool.{leb-true, leb-false, cases_lt}
@@ -15,7 +15,7 @@ use Rattle.km_risk.specs.Printed.{divided_up, printed_risk}
 use Rattle.km_risk.specs.Bounds.{overstated}
 use Rattle.km_risk.specs.Laws.{AtMostOneLaw, NotBelowLaw, NotFarAboveLaw}
 
--- what a draw keeps, draws keep
+-- what each draw preserves, draws preserve
 pub grows : (P : List ℕ → Type 0) → ((ds : List ℕ) (d : ℕ) → P ds → P (ds ++ d ∷ [])) → (ds more : List ℕ) → P ds → P (ds ++ more)
 grows P push ds [] h = subst P (sym (append-nil ds)) h
 grows P push ds (d ∷ more) h = subst P (append_assoc ds (d ∷ []) more) (grows P push (ds ++ d ∷ []) more (push ds d h))
@@ -24,7 +24,7 @@ grows_same : (P : List ℕ → Type 0) (d : ℕ) → ((ds : List ℕ) → P ds �
 grows_same P d push zero ds h = subst P (sym (append-nil ds)) h
 grows_same P d push (suc n) ds h = subst P (append_assoc ds (d ∷ []) (replicate n d)) (grows_same P d push n (ds ++ d ∷ []) (push ds h))
 
--- the upper side after one draw more, by the number s that it leaves
+-- the upper side after one more draw, by the number s that it leaves
 pub rises_low : (r u e b v a o j s : ℕ) → e ≤ u → r * b ≤ o * a + j * v → b ≤ v → s * e ≤ r * u + e → s * (b * e) ≤ o * (a * u) + (j + 1) * (v * u)
 rises_low r u e b v a o j s small bound under rounded =
     let m1 = mul-le-mul_right b rounded in
@@ -52,8 +52,8 @@ stepped u e r d = capped_if (nat_le d 1) (divided_up (r * u) (e d))
 abbrev pub growing : ℕ → (ℕ → ℕ) → ℕ → ℕ
 growing u e d = if nat_le d 1 then u else e d
 
--- the upper side of a risk r: a and b are the exact numerator and denominator, v is b times the factors of the overstated
--- draws, j is the number of draws
+-- the upper side of a risk r: a and b are the exact numerator and denominator, v is b times the factors of the overstated draws, and j is
+-- the number of draws
 record Upper (r a b v j : ℕ) : Type 0 where
   most : r ≤ ONE
   under : b ≤ v
@@ -62,7 +62,7 @@ record Upper (r a b v j : ℕ) : Type 0 where
 abbrev UpperAt : ℕ → (ℕ → ℕ) → List ℕ → Type 0
 UpperAt u e ds = Upper (fold (stepped u e) ONE ds) (u ^ length ds) (product (map e ds)) (product (map (growing u e) ds)) (length ds)
 
--- the lower side after one draw more
+-- the lower side after one more draw
 pub falls : (r u e b a o s : ℕ) → o * a ≤ r * b → r * u ≤ s * e → o * (a * u) ≤ s * (b * e)
 falls r u e b a o s bound rounded =
     let m1 = mul-le-mul_right u bound in
@@ -147,7 +147,7 @@ module _ (u : ℕ) (e : ℕ → ℕ) (pos : (d : ℕ) → 0 < e d) (low : (d : �
       let after1 = grows_same (LowerAt u e) 1 (low_push 1 (omega arith)) c.n1 _ (inl after2) in
       grows_same (LowerAt u e) 0 (low_push 0 (omega arith)) c.n0 _ after1
 
--- the growth, over the overstated draws alone: a and b are their numerator and denominator
+-- the growth, over only the overstated draws: a and b are their numerator and denominator
 growth_step : (u x v a b all : ℕ) → v * b ≡ a * all → (c : Bool) →
     (if c then u else x) * v * (if c then x * b else b) ≡ (if c then u * a else a) * (x * all)
 growth_step u x v a b all h true = let m : v * b * (u * x) ≡ a * all * (u * x) = rw h refl in omega arith

@@ -72,11 +72,11 @@ passes-prefixes p h (d ∷ more) =
     rw (append-nil h, list_any-map (λ q. p (h ++ q)) (λ q. d ∷ q) (prefixes more), passes-prefixes p (h ++ d ∷ []) more)
     (ap (λ f. p h || list_any f (prefixes more)) (fun_ext (λ q. ap p (append_assoc h (d ∷ []) q))))
 
--- a sequence passes where some prefix does
+-- a sequence passes if some prefix does
 pub passes-from_none : (p : List ℕ → Bool) (s : List ℕ) → passes p [] s ≡ list_any p (prefixes s)
 passes-from_none p s = passes-prefixes p [] s
 
--- all sequences count, or those that get there later
+-- all sequences count, or only those that get there later
 split : (b : Bool) (q : ℕ → List ℕ → Bool) (s : List (List ℕ)) (ds : List ℕ) (all : ℕ) (r : ℕ → ℕ) →
     all ≡ length ds * length s → ((d : ℕ) → r d ≡ count_by (q d) s) →
     (if b then all else sum_by r ds) ≡ sum_by (λ d. count_by (λ more. b || q d more) s) ds
@@ -109,7 +109,7 @@ All-flat_map P f (x ∷ xs) h =
     rw (flat_map-cons f x xs)
     (All-append P (f x) (flat_map f xs) (All-head (λ y. All P (f y)) x xs h) (All-flat_map P f xs (All-tail (λ y. All P (f y)) x xs h)))
 
--- what holds of each draw holds of each draw of each sequence
+-- what is true of each draw is true of each draw of each sequence
 pub All-sequences : (P : ℕ → Type 0) (ds : List ℕ) → All P ds → (n : ℕ) → All (All P) (sequences ds n)
 All-sequences P ds h zero = All-cons (All P) [] [] (All-nil P) (All-nil (All P))
 All-sequences P ds h (suc n) =

@@ -1,4 +1,4 @@
--- A chain with one draw more, and one that a draw leaves as it is.
+-- A chain with one more draw, and a chain that a draw leaves as it is.
 use Rattle.std.proofs.Common.{◌≡◌, ◌∙◌, ℕ, zero, suc, ◌+◌, ◌-◌, ◌≤◌, ◌++◌, fold, replicate, refl, sym, ap, arith}
 use Rattle.std.proofs.lemmas.List.{replicate-append-replicate, replicate_more}
 use Rattle.std.proofs.lemmas.List.Sums.{fold-append, fold_push}

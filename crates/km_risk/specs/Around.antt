@@ -1,4 +1,4 @@
--- Bounds of the exact risk of clean draws.
+-- Bounds on the exact risk of clean draws.
 use Rattle.std.specs.Prelude.{ℕ, ◌*◌, ◌^◌, ◌≤◌}
 use Rattle.km_risk.specs.declared.bounds.Bounds.{Bounds}
 use Rattle.km_risk.specs.declared.bounds.TheConstants.{SCALE}
@@ -13,7 +13,7 @@ pub record IsAround (cards margin gamma n least most : ℕ) : Type 0 where
   pub least_few : least ≤ SCALE
   pub most_few : most ≤ SCALE
 
--- bounds of the risk of their draws, in this setting
+-- these are bounds on the risk of their draws, in this setting
 abbrev pub AreAround : Setting → Bounds → Type 0
 AreAround setting bounds =
     IsAround setting.cards setting.margin setting.gamma bounds.draws bounds.least bounds.most

@@ -1,5 +1,5 @@
--- The printed risk of draws as they come, in units of 10^-18: a chain of whole numbers, a step a draw, each rounded up. It may be
--- looked at after each draw.
+-- The printed risk of draws in the order they come, in units of 10^-18. It is a chain of whole numbers with one step for each draw, each
+-- rounded up. It may be looked at after each draw.
 use Rattle.std.specs.Prelude.{ℕ, ◌+◌, ◌*◌, ◌≤◌, Bool, nat_le, nat_lt, if◌then◌else◌, List, fold, take, length, Option, find}
 use Rattle.std.specs.List.{range_with_len}
 use Rattle.irv_base.specs.declared.limits.TheConstants.{MOST_CARDS}
@@ -18,7 +18,7 @@ pub record IsEachSetting (cards margin gamma : ℕ) : Type 0 where
   pub gamma_within : gamma ≤ GREATEST_EACH_GAMMA
 
 module _ (cards margin gamma : ℕ) where
-  -- the risk after one more draw: times its factor, rounded up. One that has come above the ceiling stays there
+  -- the risk after one more draw: the risk times the draw's factor, rounded up; a risk that has risen above the ceiling stays as it is
   abbrev pub next_risk : ℕ → ℕ → ℕ
   next_risk risk d =
       if nat_lt CEILING risk then risk
@@ -28,16 +28,16 @@ module _ (cards margin gamma : ℕ) where
   unfoldable pub risk_as_drawn : List ℕ → ℕ
   risk_as_drawn draws = fold next_risk ONE draws
 
-  -- it is at most limit millionths
+  -- this risk is at most limit millionths
   abbrev pub is_within_as_drawn : ℕ → List ℕ → Bool
   is_within_as_drawn limit draws = nat_le (risk_as_drawn draws) (limit * MILLIONTH)
 
-  -- the first draw after which it is, counted from 1
+  -- the first draw after which the risk is within the limit, counted from 1
   abbrev pub first_within : ℕ → List ℕ → Option ℕ
   first_within limit draws =
       find (λ k. is_within_as_drawn limit (take k draws)) (range_with_len 1 (length draws))
 
--- ---- a printed risk against the exact risk of the same draws; fractions are compared by cross multiplication
+-- ---- a printed risk compared with the exact risk of the same draws; fractions are compared by cross multiplication
 
 module _ (cards margin gamma : ℕ) (draws : List ℕ) (risk : ℕ) where
   -- the risk is at least the exact risk
@@ -47,7 +47,7 @@ module _ (cards margin gamma : ℕ) (draws : List ℕ) (risk : ℕ) where
       let under = exact_denominator cards margin gamma draws in
       ONE * over ≤ risk * under
 
-  -- it is above that by at most a unit for each draw, times the exact risk of the overstated draws alone
+  -- the risk exceeds the exact risk by at most one unit for each draw, times the exact risk of only the overstated draws
   abbrev pub IsNearExact : Type 0
   IsNearExact =
       let over = exact_numerator cards margin gamma draws in

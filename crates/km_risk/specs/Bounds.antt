@@ -1,4 +1,4 @@
--- A printed risk against the exact risk of the same draws. Fractions are compared by cross multiplication.
+-- A printed risk compared with the exact risk of the same draws. Fractions are compared by cross multiplication.
 use Rattle.std.specs.Prelude.{ℕ, ◌+◌, ◌*◌, ◌≤◌, min, nat_le, List, filter, length}
 use Rattle.km_risk.specs.declared.limits.TheConstants.{ONE}
 use Rattle.km_risk.specs.Exact.{exact_numerator, exact_denominator}
@@ -8,14 +8,14 @@ abbrev pub overstated : List ℕ → List ℕ
 overstated draws = filter (λ d. nat_le d 1) draws
 
 module _ (cards margin gamma : ℕ) (draws : List ℕ) (risk : ℕ) where
-  -- the risk is at least the exact risk of the draws, or at least one if that is above one
+  -- the risk is at least the exact risk of the draws, or at least one if the exact risk is above one
   abbrev pub IsNotBelow : Type 0
   IsNotBelow =
       let over = exact_numerator cards margin gamma draws in
       let under = exact_denominator cards margin gamma draws in
       ONE * min over under ≤ risk * under
 
-  -- it is above that by at most a unit for each draw, times the exact risk of the overstated draws alone
+  -- the risk exceeds that by at most one unit for each draw, times the exact risk of only the overstated draws
   abbrev pub IsNotFarAbove : Type 0
   IsNotFarAbove =
       let over = exact_numerator cards margin gamma draws in

@@ -7,8 +7,8 @@ use Rattle.km_risk.specs.Counts.{clean}
 use Rattle.km_risk.specs.Printed.{printed_risk}
 
 module _ (cards margin gamma limit : ℕ) where
-  -- the first number of clean draws whose printed risk is at most limit millionths; no number above the cards, or above
-  -- the most draws, is tried
+  -- the first number of clean draws whose printed risk is at most limit millionths; no number above the number of cards, or above the
+  -- maximum number of draws, is tried
   unfoldable pub clean_draws : Option ℕ
   clean_draws =
       find (λ n. nat_le (printed_risk cards margin gamma (clean n)) (limit * MILLIONTH))
@@ -21,7 +21,7 @@ module _ (cards margin gamma limit : ℕ) where
     pub enough : printed_risk cards margin gamma (clean n) ≤ limit * MILLIONTH
     pub least : (k : ℕ) → k < n → limit * MILLIONTH < printed_risk cards margin gamma (clean k)
 
-  -- no number of clean draws up to the cards and the most draws is enough
+  -- no number of clean draws up to the number of cards and the maximum number of draws is enough
   abbrev pub IsNeverWithinMost : Type 0
   IsNeverWithinMost =
       (n : ℕ) → n ≤ cards → n ≤ MOST_DRAWS →

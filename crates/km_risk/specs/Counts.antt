@@ -1,12 +1,12 @@
--- How many draws have each discrepancy.
+-- The number of draws that have each discrepancy.
 use Rattle.std.specs.Prelude.{ℕ, ◌+◌, ◌==◌, List, ◌++◌, count_by, replicate}
 use Rattle.km_risk.specs.declared.draws.Counts.{Counts}
 
--- how many draws there are
+-- the number of draws
 abbrev pub draws_in : Counts → ℕ
 draws_in counts = counts.n0 + counts.n1 + counts.n2 + counts.n3 + counts.n4
 
--- the draws as a list: those with d of 4 first, then 3, 2, 1 and 0
+-- the draws as a list: those with d of 4 first, then those with d of 3, 2, 1 and 0
 abbrev pub in_order : Counts → List ℕ
 in_order counts =
     replicate counts.n4 4 ++ replicate counts.n3 3 ++ replicate counts.n2 2 ++ replicate counts.n1 1

@@ -1,9 +1,9 @@
 -- The factor of one draw, from the cards of the manifest, the margin of the assertion in votes, and gamma in thousandths.
 --
--- A draw has a discrepancy d, from 0 to 4: 2, minus the recorded value of its card, plus the seen one (values of the assorter, doubled).
--- Without a discrepancy d is 2. The factor is (1/2 + g) / (B + g), where g is gamma / 1000 and B is the value of the overstatement
--- assorter, (1 - o) / (2 - v), at the overstatement o = (2 - d) / 2 and the margin v = margin / cards (SHANGRLA, section 3.2). Numerator
--- and denominator are multiplied by 1000 * (2 * cards - margin).
+-- A draw has a discrepancy d, from 0 to 4. It is 2, minus the recorded value of its card, plus the seen value (both values of the assorter,
+-- doubled). Without a discrepancy, d is 2. The factor is (1/2 + g) / (B + g), where g is gamma / 1000 and B is the value of the
+-- overstatement assorter, (1 - o) / (2 - v), at the overstatement o = (2 - d) / 2 and the margin v = margin / cards (SHANGRLA, section
+-- 3.2). Numerator and denominator are multiplied by 1000 * (2 * cards - margin).
 use Rattle.std.specs.Prelude.{ℕ, ◌+◌, ◌-◌, ◌*◌, ◌≤◌}
 use Rattle.irv_base.specs.declared.limits.TheConstants.{MOST_CARDS, GREATEST_GAMMA}
 

@@ -25,7 +25,7 @@ FactorLaw =
     (d ≤ 1 → denominator cards margin gamma d ≤ numerator cards margin gamma)
     × (2 ≤ d → numerator cards margin gamma < denominator cards margin gamma d)
 
--- the exact risk of draws is that of their counts: their order doesn't matter
+-- the exact risk of draws is the exact risk of their counts: their order doesn't matter
 abbrev pub OrderLaw : Type 0
 OrderLaw =
     (cards margin gamma : ℕ) (draws : List ℕ) → All (λ d. d ≤ 4) draws →
@@ -34,7 +34,7 @@ OrderLaw =
     × (exact_denominator cards margin gamma (in_order (counts_of draws))
     ≡ exact_denominator cards margin gamma draws)
 
--- the counts of draws are of as many
+-- the counts of draws add up to the number of draws
 abbrev pub AllCountedLaw : Type 0
 AllCountedLaw =
     (draws : List ℕ) → All (λ d. d ≤ 4) draws → draws_in (counts_of draws) ≡ length draws
@@ -53,13 +53,13 @@ AtMostOneLaw =
     (cards margin gamma : ℕ) (counts : Counts) → 1 ≤ cards → margin ≤ cards → 1 ≤ gamma →
     printed_risk cards margin gamma counts ≤ ONE
 
--- the printed risk is at least the exact risk, or one if that is above one
+-- the printed risk is at least the exact risk, or at least one if the exact risk is above one
 abbrev pub NotBelowLaw : Type 0
 NotBelowLaw =
     (cards margin gamma : ℕ) (counts : Counts) → 1 ≤ cards → margin ≤ cards → 1 ≤ gamma →
     IsNotBelow cards margin gamma (in_order counts) (printed_risk cards margin gamma counts)
 
--- the printed risk is above that by no more than its steps may have rounded up
+-- the printed risk exceeds that by no more than its steps may have rounded up
 abbrev pub NotFarAboveLaw : Type 0
 NotFarAboveLaw =
     (cards margin gamma : ℕ) (counts : Counts) → 1 ≤ cards → margin ≤ cards → 1 ≤ gamma →
@@ -73,7 +73,7 @@ ConfirmedLaw =
     IsTrue (is_printed_within cards margin gamma limit draws) →
     IsTrue (is_within cards margin gamma limit draws)
 
--- with a number of cards there are that number ^ n sequences of n draws, and the discrepancies along them are the sequences of the cards'
+-- for a number of cards there are that number ^ n sequences of n draws, and the discrepancies along them are the sequences of the cards'
 -- discrepancies
 abbrev pub SequencesLaw : Type 0
 SequencesLaw =
@@ -82,7 +82,7 @@ SequencesLaw =
     × (map (λ drawn. map discrepancy drawn) (sequences cards n)
     ≡ sequences (map discrepancy cards) n)
 
--- the sequences are all there are, each once
+-- the listed sequences are all of the sequences, each once
 abbrev pub ListedLaw : Type 0
 ListedLaw =
     (cards n : ℕ) →
@@ -90,7 +90,7 @@ ListedLaw =
     × ((draws : List ℕ) →
     Contains (sequences (range_with_len 1 cards) n) draws ↔ IsSequence cards n draws)
 
--- whatever the factors of values are, reach counts the sequences of values of which some prefix has a product within the limit
+-- whatever the factors of values are, reach is the number of sequences of values that have a prefix whose product is within the limit
 abbrev pub ProductReachLaw : Type 0
 ProductReachLaw =
     (over limit : ℕ) (under : ℕ → ℕ) (values : List ℕ) (n : ℕ) →
@@ -115,7 +115,7 @@ LargerValuesLaw =
     IsTrue (is_product_within over under limit (map smaller drawn)) →
     IsTrue (is_product_within over under limit (map larger drawn))
 
--- reach counts the sequences of draws of which some prefix has an exact risk within the limit
+-- reach is the number of sequences of draws that have a prefix whose exact risk is within the limit
 abbrev pub ReachLaw : Type 0
 ReachLaw =
     (cards margin gamma limit : ℕ) (discrepancies : List ℕ) → length discrepancies ≡ cards →
@@ -123,7 +123,7 @@ ReachLaw =
     reach cards margin gamma limit discrepancies [] n
     ≡ count_by (some_prefix (is_within cards margin gamma limit)) (sequences discrepancies n)
 
--- if the assertion isn't true of the cards, these are at most limit millionths of all sequences
+-- if the assertion isn't true of the cards, these sequences are at most limit millionths of all sequences
 abbrev pub CountingLaw : Type 0
 CountingLaw =
     (cards margin gamma limit : ℕ) (discrepancies : List ℕ) →
@@ -133,7 +133,7 @@ CountingLaw =
     reach cards margin gamma limit discrepancies [] n * millionths_in_one ≤ limit * cards ^ n
 
 -- if the assertion isn't true of the cards, some prefix has a printed risk within the limit in at most limit millionths of all sequences:
--- however often the audit looks at its risk, it confirms such an assertion on no more of them
+-- however often the audit looks at its risk, it confirms an assertion like this on no more sequences
 abbrev pub RiskLimitLaw : Type 0
 RiskLimitLaw =
     (cards margin gamma limit : ℕ) (discrepancies : List ℕ) →
@@ -145,14 +145,14 @@ RiskLimitLaw =
     * millionths_in_one
     ≤ limit * cards ^ n
 
--- the clean draws are the least number that is enough
+-- the clean draws are the smallest number that is enough
 abbrev pub LeastLaw : Type 0
 LeastLaw =
     (cards margin gamma limit : ℕ) →
     MatchOption (clean_draws cards margin gamma limit) (IsNeverWithinMost cards margin gamma limit)
     (IsLeast cards margin gamma limit)
 
--- one clean draw more never raises the printed risk
+-- one more clean draw never raises the printed risk
 abbrev pub MoreDrawsLaw : Type 0
 MoreDrawsLaw =
     (cards margin gamma n : ℕ) → 1 ≤ cards → margin ≤ cards → 1 ≤ gamma →
@@ -166,7 +166,7 @@ LargerMarginLaw =
     IfSome (clean_draws cards margin gamma limit)
     (λ n. IsSomeAnd (clean_draws cards larger gamma limit) (λ k. k ≤ n))
 
--- with a larger margin, the printed risk of the same clean draws is no larger, however many they are
+-- with a larger margin, the printed risk of the same clean draws is no larger, whatever their number
 abbrev pub SameDrawsLaw : Type 0
 SameDrawsLaw =
     (cards margin larger gamma n : ℕ) → 1 ≤ cards → margin ≤ larger → larger ≤ cards → 1 ≤ gamma →

@@ -1,12 +1,12 @@
--- Draws that have a value each, and of each value a factor over / under value: the product of the factors, as a fraction, and how
--- many sequences of draws get to a product within a limit.
+-- Draws that each have a value, where each value has a factor over / under value: the product of the factors, as a fraction, and the number
+-- of sequences of draws that reach a product within a limit.
 use Rattle.std.specs.Prelude.{ℕ, zero, suc, ◌*◌, ◌^◌, Bool, nat_le, if◌then◌else◌, List, [], ◌∷◌, ◌++◌, map, length, fold, sum_by}
 
--- a risk limit is a number of these, and a risk of one has this many
+-- a risk limit is a number of these, and a risk of one is this many
 abbrev pub millionths_in_one : ℕ
 millionths_in_one = 1000000
 
--- the product of the numbers, and 1 for none
+-- the product of the numbers, which is 1 if there are none
 abbrev pub product : List ℕ → ℕ
 product xs = fold (λ all x. all * x) 1 xs
 
@@ -16,8 +16,8 @@ module _ (over : ℕ) (under : ℕ → ℕ) where
   is_within limit values =
       nat_le (over ^ length values * millionths_in_one) (limit * product (map under values))
 
-  -- of the sequences that begin with what was drawn and go on with n more draws, how many have a product of at most limit millionths, now
-  -- or after some of these draws; values has the value of each card
+  -- Of the sequences that begin with what was drawn and continue with n more draws, the number that have a product of at most limit
+  -- millionths, now or after some of these draws. The list `values` has the value of each card.
   abbrev pub reach : ℕ → List ℕ → List ℕ → ℕ → ℕ
   reach limit values drawn zero = if is_within limit drawn then 1 else 0
   reach limit values drawn (suc n) =

@@ -1,4 +1,4 @@
-// The risk of draws as they come.
+// The risk of draws in the order they come.
 ghost use Rattle.std.specs.Prelude.{◌≡◌, ◌≤◌, ◌*◌, nat_le};
 ghost use Rattle.irv_base.specs.declared.limits.TheConstants.{GREATEST_LIMIT};
 ghost use Rattle.km_risk.specs.declared.limits.TheConstants.{MILLIONTH};
@@ -6,8 +6,8 @@ ghost use Rattle.km_risk.specs.AsDrawn.{IsEachSetting, next_risk};
 
 use crate::limits::{CEILING, MILLIONTH};
 
-/// The printed risk after one more draw with the discrepancy `d`, in units of 10^-18, from the one before it, for a manifest of
-/// `cards` cards, an assertion with a margin of `margin` votes, and `gamma` thousandths. Without draws it is `ONE`.
+/// The printed risk after one more draw with the discrepancy `d`, in units of 10^-18. It is computed from the risk before that draw, for a
+/// manifest of `cards` cards, an assertion with a margin of `margin` votes, and `gamma` thousandths. Without draws the risk is `ONE`.
 ///
 /// The step is rounded up. A risk above `CEILING` stays as it is.
 pub fn next_risk(risk: u128, d: u8, cards: u32, margin: u32, gamma: u32) -> u128

@@ -1,13 +1,14 @@
-//! Laws of the risk of draws as they come, one for each function: its contract is the law, and its body is empty.
+//! Laws of the risk of draws in the order they come, one for each function: its contract is the law, and its body is empty.
 ghost use Rattle.km_risk.specs.AsDrawnLaws.{AsDrawnLaw, CeilingLaw, FirstWithinLaw, WithinAsDrawnLaw, AsDrawnRiskLimitLaw};
 
-/// Up to the ceiling the printed risk is at least the exact one, and above it by at most a unit for each draw, times the factors of the
+/// Up to the ceiling, the printed risk is at least the exact one. It exceeds the exact one by at most one unit for each draw, times the
+/// factors of the draws with d of 0 or 1.
 /// draws with d of 0 or 1.
 pub fn as_drawn()
     ensures { AsDrawnLaw }
 {}
 
-/// Above the ceiling it is that of the first draws after which it was above the ceiling, and stays so.
+/// Above the ceiling, the printed risk is that of the first draws after which it was above the ceiling, and it stays so.
 pub fn ceiling()
     ensures { CeilingLaw }
 {}

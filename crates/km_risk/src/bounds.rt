@@ -1,4 +1,4 @@
-// Bounds of the risk of clean draws.
+// Bounds on the risk of clean draws.
 ghost use Rattle.std.specs.Prelude.{◌≡◌, ◌+◌, ◌*◌, ◌<◌, ◌≤◌, ◌^◌};
 ghost use Rattle.std.specs.Bool.{OnTrue};
 ghost use Rattle.irv_base.specs.declared.limits.TheConstants.{GREATEST_LIMIT, MOST_DRAWS};
@@ -10,21 +10,21 @@ ghost use Rattle.km_risk.specs.Printed.{printed_risk};
 use crate::limits::{MILLIONTH, ONE};
 use crate::setting::Setting;
 
-/// Bounds are in units of a `SCALE`-th: a power of two, so that a division by it is a shift.
+/// Bounds are in units of a `SCALE`-th. This is a power of two, so that a division by it is a shift.
 pub const SCALE: u64 = 1_152_921_504_606_846_976;
 
-/// A number of clean draws, and bounds of their exact risk.
+/// A number of clean draws, and bounds on their exact risk.
 #[derive(Clone, Copy)]
 pub struct Bounds {
-    /// How many clean draws.
+    /// The number of clean draws.
     pub draws: u32,
-    /// Not above their risk, in units of a `SCALE`-th.
+    /// A lower bound on their risk, in units of a `SCALE`-th.
     pub least: u64,
-    /// Not below their risk, in the same units.
+    /// An upper bound on their risk, in the same units.
     pub most: u64,
 }
 
-/// No draws, and bounds of their risk, which is one.
+/// No draws, and bounds on their risk, which is one.
 pub fn no_draws(setting: Setting) -> Bounds
     ensures around { AreAround setting result }
     ensures none { result.draws ≡ 0 }
@@ -37,7 +37,7 @@ pub fn no_draws(setting: Setting) -> Bounds
     }
 }
 
-/// One clean draw, and the bounds of its risk.
+/// One clean draw, and the bounds on its risk.
 pub fn one_draw(setting: Setting) -> Bounds
     ensures around { AreAround setting result }
     ensures one { result.draws ≡ 1 }
@@ -56,7 +56,7 @@ pub fn one_draw(setting: Setting) -> Bounds
 }
 
 impl Bounds {
-    /// These draws and the others, taken together.
+    /// These draws and the other draws, taken together.
     pub fn joined(self, setting: Setting, other: Bounds) -> Bounds
         requires few { self.draws + other.draws < 2 ^ 32 }
         requires around { AreAround setting self }
@@ -75,7 +75,7 @@ impl Bounds {
         }
     }
 
-    /// The printed risk of the draws is surely above the limit.
+    /// Whether the printed risk of the draws is certainly above the limit.
     pub fn is_above(self, setting: Setting, limit: u32) -> bool
         requires limit { limit ≤ GREATEST_LIMIT }
         requires around { AreAround setting self }
@@ -88,7 +88,7 @@ impl Bounds {
         allowed * u128::from(SCALE) < u128::from(self.least) * u128::from(ONE)
     }
 
-    /// The printed risk of the draws is surely within the limit.
+    /// Whether the printed risk of the draws is certainly within the limit.
     pub fn is_within(self, setting: Setting, limit: u32) -> bool
         requires limit { limit ≤ GREATEST_LIMIT }
         requires around { AreAround setting self }
@@ -103,7 +103,7 @@ impl Bounds {
     }
 }
 
-/// Draws whose risk is surely above the limit, as many as steps of this many draws, and of half as many, and so on, find.
+/// Draws whose risk is certainly above the limit: as many as can be found by steps of this many draws, and of half as many, and so on.
 pub fn climb(setting: Setting, limit: u32, most: u32, step: Bounds) -> Bounds
     requires limit { limit ≤ GREATEST_LIMIT }
     requires some { 1 ≤ step.draws }

@@ -10,7 +10,7 @@ use crate::limits::ONE;
 use crate::setting::Setting;
 use irv_base::MOST_DRAWS;
 
-// One draw after the other: the first number whose risk is at most the limit.
+// Goes draw by draw: the first number of draws whose risk is at most the limit.
 fn first_within(setting: Setting, limit: u32) -> Option<u32>
     requires { limit ≤ GREATEST_LIMIT }
     ensures { result ≡ clean_draws setting.cards setting.margin setting.gamma limit }
@@ -25,12 +25,12 @@ fn first_within(setting: Setting, limit: u32) -> Option<u32>
     None
 }
 
-/// The least number of draws without a discrepancy, and no others, whose printed risk is at most `limit` millionths, for a manifest of
+/// The smallest number of draws without a discrepancy, and no others, whose printed risk is at most `limit` millionths, for a manifest of
 /// `cards` cards, an assertion with a margin of `margin` votes, and `gamma` thousandths.
 ///
-/// `None` exactly if more draws than there are cards, or more than `MOST_DRAWS`, are needed.
+/// The result is `None` exactly if more draws than there are cards, or more than `MOST_DRAWS`, are needed.
 ///
-/// Bounds of the risk mostly give it in about as many steps as the number has binary digits. If they leave a doubt, each draw is a step.
+/// Bounds on the risk usually give the number in about as many steps as it has binary digits. If they leave any doubt, each draw is a step.
 pub fn clean_draws(cards: u32, margin: u32, gamma: u32, limit: u32) -> Option<u32>
     requires setting { IsSetting cards margin gamma }
     requires limit { (1 ≤ limit) × (limit ≤ GREATEST_LIMIT) }

@@ -10,14 +10,14 @@ ghost use Rattle.km_risk.specs.Bounds.{IsNotBelow, IsNotFarAbove};
 use crate::limits::{MILLIONTH, ONE};
 use crate::setting::Setting;
 
-/// How many draws have each discrepancy d, from 0 to 4. Without a discrepancy d is 2.
+/// The number of draws that have each discrepancy d, from 0 to 4. Without a discrepancy, d is 2.
 #[derive(Clone, Copy, Debug, Default, PartialEq, Eq)]
 pub struct Counts {
     /// Draws that support the assertion by two votes less than recorded.
     pub n0: u32,
     /// Draws that support it by one vote less.
     pub n1: u32,
-    /// Clean draws: seen as recorded, for what the assertion is about.
+    /// Clean draws, which are seen as recorded as far as the assertion is concerned.
     pub n2: u32,
     /// Draws that support it by one vote more.
     pub n3: u32,
@@ -28,7 +28,7 @@ pub struct Counts {
 /// The printed risk of the draws, in units of 10^-18, for a manifest of `cards` cards, an assertion with a margin of `margin` votes, and
 /// `gamma` thousandths.
 ///
-/// The draws with d of 4 are taken first, then those with 3, 2, 1 and 0. Each step is rounded up.
+/// The draws with d of 4 are taken first, then those with d of 3, 2, 1 and 0. Each step is rounded up.
 pub fn risk(counts: &Counts, cards: u32, margin: u32, gamma: u32) -> u64
     requires draws { draws_in counts.now ≤ MOST_DRAWS }
     requires setting { IsSetting cards margin gamma }

@@ -3,7 +3,7 @@ ghost use Rattle.std.specs.Prelude.{◌≡◌, ◌*◌, ◌/◌, ◌<◌, ◌≤
 
 use crate::limits::ONE;
 
-// A factor is kept in units of a 2^64th, so that a division by them is free.
+// A factor is kept in units of 2^-64, so that the division by 2^64 is free.
 const UNITS: u128 = 18_446_744_073_709_551_616;
 
 /// A factor below one, as a fraction.
@@ -40,8 +40,8 @@ impl Falling {
 
     /// The risk times the factor, rounded up.
     ///
-    /// The product with the factor in units is at most one below the quotient, and the rest corrects it: a product takes a fraction of the
-    /// time of a division.
+    /// The product with the factor in units is at most one below the quotient, and the remainder corrects it. A product takes a fraction of
+    /// the time of a division.
     pub fn times(self, risk: u64) -> u64
         requires { risk ≤ ONE }
         ensures value { result ≡ divided_up (risk * self.over) self.under }

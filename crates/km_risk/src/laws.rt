@@ -36,12 +36,13 @@ pub fn at_most_one()
     ensures { AtMostOneLaw }
 {}
 
-/// The printed risk is at least the exact one, or one if that is less.
+/// The printed risk is at least the exact risk, or at least one if the exact risk is above one.
 pub fn not_below()
     ensures { NotBelowLaw }
 {}
 
-/// The printed risk is above that by at most a unit for each draw, times the factors of the draws with d of 0 or 1.
+/// The printed risk exceeds the smaller of the exact risk and one by at most one unit for each draw, times the factors of the draws with d
+/// of 0 or 1.
 pub fn not_far_above()
     ensures { NotFarAboveLaw }
 {}
@@ -56,12 +57,12 @@ pub fn all_sequences()
     ensures { SequencesLaw }
 {}
 
-/// The listed sequences of draws are all sequences of cards, each once.
+/// The listed sequences of draws are all of the sequences of cards, each once.
 pub fn listed()
     ensures { ListedLaw }
 {}
 
-/// What the counting law of any factor bounds is a number of sequences of values.
+/// The quantity that the counting law for any factor bounds is a number of sequences of values.
 pub fn reaching_of_any_factor()
     ensures { ProductReachLaw }
 {}
@@ -71,7 +72,7 @@ pub fn counting_of_any_factor()
     ensures { ProductCountingLaw }
 {}
 
-/// What the counting law bounds is a number of sequences of draws.
+/// The quantity that the counting law bounds is a number of sequences of draws.
 pub fn reaching()
     ensures { ReachLaw }
 {}
@@ -88,7 +89,7 @@ pub fn risk_limit()
     ensures { RiskLimitLaw }
 {}
 
-/// The clean draws of a limit are the least number that is enough.
+/// The clean draws for a limit are the smallest number that is enough.
 pub fn least()
     ensures { LeastLaw }
 {}

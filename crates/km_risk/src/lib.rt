@@ -1,8 +1,8 @@
 //! The Kaplan-Markov risk of a ballot-comparison audit, and the draws that a clean audit needs.
 //!
-//! The risk is the Kaplan-Markov value (Stark, "Super-simple simultaneous single-ballot risk-limiting audits") over the
-//! overstatement assorter (Stark, SHANGRLA, section 3.2), for draws with replacement. It is printed as a whole number of
-//! units of 10^-18, and each rounding goes up, so it is never too small. It is computed from numbers of draws, or draw by draw.
+//! The risk is the Kaplan-Markov value (Stark, "Super-simple simultaneous single-ballot risk-limiting audits") over the overstatement
+//! assorter (Stark, SHANGRLA, section 3.2), for draws with replacement. It is printed as a whole number of units of 10^-18, and each
+//! rounding goes up, so it is never too small. It is computed either from numbers of draws or draw by draw.
 #![tactic(auto)]
 
 mod as_drawn;

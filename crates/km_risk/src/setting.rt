@@ -1,17 +1,17 @@
-// What the factors of the draws come from, and the steps of the chain.
+// What the factors of the draws depend on, and the steps of the chain.
 ghost use Rattle.std.specs.Prelude.{◌≡◌, ◌≤◌, fold, replicate};
 ghost use Rattle.km_risk.specs.Factor.{IsSetting};
 
 use crate::falling::Falling;
 use crate::limits::ONE;
 
-// From this discrepancy on a draw has a factor below one.
+// A draw with this discrepancy or a larger one has a factor below one.
 const CLEAN: u8 = 2;
 
 /// The cards of the manifest, the margin of the assertion in votes, and gamma in thousandths.
 #[derive(Clone, Copy)]
 pub struct Setting {
-    /// How many cards the manifest has.
+    /// The number of cards in the manifest.
     pub cards: u32,
     /// The margin of the assertion, in votes.
     pub margin: u32,
@@ -73,7 +73,7 @@ impl Setting {
         now
     }
 
-    /// The risk after a number of draws with the discrepancy `d`. Once a draw leaves it as it is, so do all others.
+    /// The risk after a number of draws with the discrepancy `d`. Once a draw leaves the risk as it is, so do all later ones.
     pub fn after_draws(self, risk: u64, number: u32, d: u8) -> u64
         requires { risk ≤ ONE }
         ensures value { result

@@ -1,4 +1,4 @@
--- The ids of batches in a table of places, and one id more.
+-- The ids of batches in a table of places, and one more id.
 use Rattle.std.proofs.Common.{◌⊎◌, inl, inr, ◌==◌, ◌≡◌, ◌∙◌, ◌++◌, ◌∷◌, [], ◌+◌, ◌-◌, ◌<◌, ◌≤◌, ℕ, zero, suc, Bool, true, false, List, Option, Some, None, length, get_or, set, cond, refl, sym, ap, subst, arith, length-append}
 use Rattle.std.specs.Prelude.{is_some, option_map, position}
 use Rattle.std.specs.Cmp.Lexicographic.{bytes_decides}
@@ -28,7 +28,7 @@ pub record AtPlace (ids : List Id) (table : List ℕ) (later : Option ℕ) (id :
   pub first : get_or table place 0 ≡ number
   pub placed : IsPlaced ids number later id
 
--- as the code comes to know it
+-- the same, in the form in which the code learns it
 pub at_place : (ids : List Id) (table : List ℕ) (later : Id → Option ℕ) (id : Id) (places place number : ℕ) → IsTable ids table later → is_name id ≡ true →
     places ≡ length table → place ≡ place_in places id → place < places → number ≡ get_or table place number → AtPlace ids table (later id) id place number
 at_place ids table later id places place number h named long there below is =
@@ -82,7 +82,7 @@ pub found_within : (ids : List Id) (first i : ℕ) (later : Option ℕ) (id : Id
 found_within ids first i later id h some other is =
     (position-Some (is_same id) ids i [] (position-later ids first later id h some other ∙ is)).0
 
--- ---- one id more, and how another is found then
+-- ---- one more id, and how another id is found then
 
 position-push : (ids : List Id) (id other : Id) → is_same id other ≡ false → position (is_same other) (ids ++ id ∷ []) ≡ position (is_same other) ids
 position-push ids id other apart = by (position (is_same other) ids) refl where
@@ -164,7 +164,7 @@ at_free ids table later id place h new at within free = record {
         differs (inr f) = f
         differs (inl t) = absurd (apart (ap (place_in (length table)) (sym ((bytes_decides id other).0 t)) ∙ sym at))
 
--- ---- at a place that another has
+-- ---- at a place that another id has
 
 apart-at : (ids : List Id) (id : Id) (k : ℕ) → is_among ids id ≡ false → k < length ids → is_same (get_or ids k []) id ≡ false
 apart-at [] id k new less = absurd (omega (arith, less))
@@ -202,7 +202,7 @@ at_taken ids table later now id place h own new at some put = record {
       subst (λ o. IsPlaced (ids ++ id ∷ []) (get_or table (place_in (length table) other) 0) o other) (sym is)
       (stays ids id other (get_or table (place_in (length table) other) 0) (later other) f (h.placed other named))
 
--- ---- what stands among the later ones
+-- ---- the entries among the later ids
 
 pub stood : (later : Option ℕ) (i index : ℕ) → i ≡ unwrap_or later index → (i ≡ index → ⊥) → later ≡ Some i
 stood None i index e other = absurd (other e)
@@ -219,7 +219,7 @@ same_later ids table later now h same = record {
   placed = λ other named. subst (λ o. IsPlaced ids (get_or table (place_in (length table) other) 0) o other) (sym (same other named)) (h.placed other named);
 }
 
--- one that stood stays as it was
+-- an entry that was there stays as it was
 pub at_met : (ids : List Id) (table : List ℕ) (later now : Id → Option ℕ) (id : Id) (i : ℕ) → IsTable ids table later → later id ≡ Some i →
     ((other : Id) → is_name other ≡ true → now other ≡ cond (is_same id other) (Some i) (later other)) → IsTable ids table now
 at_met ids table later now id i h is put = same_later ids table later now h (λ other named. by other named (cases_Bool (is_same id other))) where

@@ -1,4 +1,4 @@
--- The card with a number, batch after batch.
+-- The card with a number, batch by batch.
 use Rattle.std.proofs.Common.{◌≡◌, ◌∙◌, ◌++◌, ◌∷◌, [], ◌+◌, ◌-◌, ◌<◌, ◌≤◌, ℕ, zero, suc, List, Some, length, take, get_or, map, inl, inr, refl, ap, arith, length-append}
 use Rattle.std.specs.List.{range_with_len, slice_get, sum}
 use Rattle.std.proofs.Math.Nat.{eq-or-lt_of_le}
@@ -72,7 +72,7 @@ first_at a [] i less = absurd (omega (arith, less))
 first_at a (n ∷ counts) zero less = let none : sum [] ≡ 0 = refl in omega (arith, none)
 first_at a (n ∷ counts) (suc i) less = omega (arith, first_at (a + n) counts i (omega (arith, less)), sum-cons n (take i counts))
 
--- card i stands in batch b, whose first card it isn't before, and the next one's it is
+-- card i is in batch b: it doesn't come before the first card of this batch, but comes before the first card of the next one
 pub in_batch : (counts firsts : List ℕ) (i b : ℕ) → firsts ≡ firsts_from 1 counts → i ≤ sum counts → b < length counts → get_or firsts b 0 ≤ i
     → (b + 1 < length firsts → i < get_or firsts (b + 1) 0) → i - get_or firsts b 0 < get_or counts b 0
 in_batch counts firsts i b e most within begun last =

@@ -1,4 +1,4 @@
--- A card's id tells the card.
+-- The id of a card determines the card.
 use Rattle.std.proofs.Common.{inl, inr, ◌≡◌, ◌∙◌, ◌++◌, ◌∷◌, [], ◌||◌, ◌==◌, ◌≤◌, ℕ, Bool, true, false, List, decimal, nat_le, refl, sym, ap, arith, leb-true}
 use Rattle.std.specs.Char.{is_ascii_digit}
 use Rattle.std.specs.Cmp.Lexicographic.{bytes_decides}

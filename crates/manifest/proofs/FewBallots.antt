@@ -1,4 +1,4 @@
--- Ballots that have their cards are at most as many.
+-- There are at most as many ballots as cards if the ballots have cards.
 use Rattle.std.proofs.Common.{◌≡◌, ℕ, ◌≤◌, true, false, not, List, [], ◌∷◌, length, map, position, Option, None, Some, option_map, inl, inr, refl, ap, subst, arith}
 use Rattle.std.specs.List.{list_any}
 use Rattle.std.proofs.lemmas.Bool.{and_parts, cases_Bool, both_ways, not-true}

@@ -1,4 +1,4 @@
--- The place of a card in the list of all.
+-- The place of a card in the list of all cards.
 use Rattle.std.proofs.Common.{◌⊎◌, inl, inr, ◌≡◌, ◌∙◌, ◌∷◌, [], ◌+◌, ◌-◌, ◌<◌, ◌≤◌, ℕ, zero, suc, Bool, true, false, not, List, Option, Some, None, length, map, take, get_or, nat_le, refl, sym, ap, subst, arith, leb-true, ltb-true, ltb-false, ◌≢◌, nat_lt}
 use Rattle.std.specs.Prelude.{option_map, position}
 use Rattle.std.specs.List.{list_all, range_with_len, sum}
@@ -19,7 +19,7 @@ use Rattle.manifest.proofs.Numbers.{same-equal}
 abbrev pub card : Id → ℕ → Card
 card b k = record { batch = b; k = k }
 
--- no card of a batch of so many passes
+-- no card with a possible number passes in a batch with this id
 abbrev pub NonePasses : (Card → Bool) → Id → Type 0
 NonePasses p b = (k : ℕ) → 1 ≤ k → k ≤ MOST_BATCH_CARDS → p (card b k) ≡ false
 
@@ -28,7 +28,7 @@ none_of p b a zero l m h = refl
 none_of p b a (suc n) l m h = later_place p (card b a) (map (card b) (range_with_len (a + 1) n)) (h a l (omega (arith, m)))
     ∙ ap (option_map (λ i. 1 + i)) (none_of p b (a + 1) n (omega (arith, l)) (omega (arith, m)) h)
 
--- what passes is the card with number k alone
+-- only the card with number k passes
 pub record PassesAlone (p : Card → Bool) (b : Id) (k : ℕ) : Type 0 where
   pub passes : p (card b k) ≡ true
   pub alone : (j : ℕ) → 1 ≤ j → j ≤ MOST_BATCH_CARDS → j ≢ k → p (card b j) ≡ false
@@ -72,7 +72,7 @@ none_then p b n ids counts few h =
     none_first p (cards_of_batch b n) (cards_in ids counts) (none_of p b 1 n (omega arith) (omega (arith, few)) h)
     ∙ ap (λ l. option_map (λ i. l + i) (position p (cards_in ids counts))) (length-map-range_with_len (card b) 1 n)
 
--- ---- one card alone passes, of the batch with one id
+-- ---- only one card passes, in the batch with one id
 
 pub record Names (p : Card → Bool) (id : Id) (k : ℕ) : Type 0 where
   pub first : 1 ≤ k
@@ -105,7 +105,7 @@ absent p id k (b ∷ ids) (n ∷ counts) v c h none =
     none_then p b n ids counts (counted n counts c).0 (h.others b (named b ids v).0 here)
     ∙ ap (option_map (λ i. n + i)) (absent p id k ids counts (named b ids v).1 (counted n counts c).1 h there)
 
--- the batch with number i has the id, and so many cards
+-- the batch with number i has the id, and has at least k cards
 pub found : (p : Card → Bool) (id : Id) (k i : ℕ) (ids : List Id) (counts : List ℕ) → length counts ≡ length ids → list_all is_batch_id ids ≡ true →
     list_all is_count counts ≡ true → Names p id k
     → position (is_same id) ids ≡ Some i → k ≤ get_or counts i 0 → position p (cards_in ids counts) ≡ Some (sum (take i counts) + (k - 1))
@@ -143,7 +143,7 @@ found p id k i (b ∷ ids) (n ∷ counts) l v c h at few =
       by true t ih = let e : 0 ≡ i = (let q = sym (first_place (is_same id) b ids t) ∙ at in cc) in subst Goal e (at_first t) few
       by false t ih = in_rest t (position (is_same id) ids) refl (sym (later_place (is_same id) b ids t) ∙ at) ih few
 
--- it has fewer cards
+-- the batch has fewer cards
 pub past : (p : Card → Bool) (id : Id) (k i : ℕ) (ids : List Id) (counts : List ℕ) → length counts ≡ length ids → list_all is_batch_id ids ≡ true →
     all_differ ids ≡ true → list_all is_count counts ≡ true → Names p id k
     → position (is_same id) ids ≡ Some i → get_or counts i 0 < k → position p (cards_in ids counts) ≡ None

@@ -1,4 +1,4 @@
--- Ids in words: what a text into which an id was copied has, and that no two ids have the same.
+-- Ids as words: the content of a text into which an id was copied, and that no two ids have the same words.
 use Rattle.std.proofs.Common.{◌≡◌, ◌≤◌, ◌<◌, ◌+◌, ◌-◌, ◌∙◌, ◌++◌, ◌∷◌, ◌&&◌, [], ℕ, zero, suc, true, not, List, length, take, drop, replicate, get_or, refl, sym, ap, ap₂, arith, length-append}
 use Rattle.std.specs.Prelude.{map}
 use Rattle.std.specs.Cmp.{both_ways}
@@ -14,7 +14,7 @@ use Rattle.irv_base.specs.declared.limits.TheConstants.{MOST_NAME_BYTES}
 use Rattle.irv_base.proofs.NameBytes.{name-few}
 use Rattle.manifest.specs.IdWords.{filled, word_at, words_of}
 
--- a text into whose front an id was copied
+-- a text with an id copied to its front
 pub of_copied : (id own copied text : List ℕ) → own ≡ id → copied ≡ own → text ≡ replicate MOST_NAME_BYTES 0 →
     map (word_at (copied ++ drop (length own) text)) (0 ∷ 8 ∷ 16 ∷ 24 ∷ 32 ∷ 40 ∷ 48 ∷ 56 ∷ []) ≡ words_of id
 of_copied id own copied text is same blank =
@@ -67,14 +67,14 @@ read k text h within =
     be_bytes_8 (take 8 (drop k text)) (word_at text k) (eight k text h within)
     (λ i. small-front 8 (drop k text) i (λ j. small-behind k text j h.bytes)) refl
 
--- a word and what is behind it
+-- a word and what follows it
 step : (k : ℕ) (xs ys : List ℕ) → IsText xs → IsText ys → k + 8 ≤ 64 → word_at xs k ≡ word_at ys k → drop (k + 8) xs ≡ drop (k + 8) ys →
     drop k xs ≡ drop k ys
 step k xs ys own its within e rest =
     let first = sym (read k xs own within) ∙ ap (to_be_bytes w64) e ∙ read k ys its within in
     sym (take-append-drop 8 (drop k xs)) ∙ ap₂ (λ a b. a ++ b) first (drop-drop 8 k xs ∙ rest ∙ sym (drop-drop 8 k ys)) ∙ take-append-drop 8 (drop k ys)
 
--- zeros tell where an id ends
+-- zeros show where an id ends
 ends_apart : (xs ys : Id) (m n : ℕ) → list_all is_name_byte xs ≡ true → list_all is_name_byte ys ≡ true →
     xs ++ replicate m 0 ≡ ys ++ replicate n 0 → xs ≡ ys
 ends_apart [] [] m n h k e = refl
@@ -100,7 +100,7 @@ words_apart a b h k e =
     ends_apart a b (64 - length a) (64 - length b) (and_parts (has_name_length a && not (touches_space a)) (list_all is_name_byte a) h).1
     (and_parts (has_name_length b && not (touches_space b)) (list_all is_name_byte b) k).1 all
 
--- so words tell ids as the ids do
+-- so words distinguish ids just as well as the ids themselves do
 pub words_tie : (a b : Id) → is_name a ≡ true → is_name b ≡ true → is_eq (slice_cmp nat_cmp (words_of a) (words_of b)) ≡ is_same a b
 words_tie a b h k =
     sym (texts_ties (words_of a) (words_of b))

@@ -1,4 +1,4 @@
--- Ballots that are put to their cards one after the other.
+-- Ballots that are assigned to their cards one by one.
 use Rattle.std.proofs.Common.{◌≡◌, ◌∙◌, ◌++◌, ◌∷◌, [], ◌||◌, ◌+◌, ◌-◌, ◌==◌, ◌<◌, ◌≤◌, ℕ, zero, suc, Bool, true, false, not, List, Option, Some, None, length, map, take, drop, get_or, set, replicate, refl, sym, ap, arith}
 use Rattle.std.specs.Prelude.{All, option_map, position}
 use Rattle.std.specs.Cmp.Lexicographic.{bytes_decides}
@@ -54,7 +54,7 @@ parted xs i d h = sym (take-append-drop i xs) ∙ ap (λ rest. take i xs ++ rest
 pub same-refl : (a : Id) → is_same a a ≡ true
 same-refl a = (bytes_decides a a).1 refl
 
--- a further ballot is no other card's
+-- a further ballot belongs to no other card
 of_another : (ids : List Id) (id : Id) (c : Card) → (card_id c ≡ id → ⊥) → ballot_number (ids ++ id ∷ []) c ≡ ballot_number ids c
 of_another ids id c h = ap from_one (by (position (is_same (card_id c)) ids) refl) where
   by : (o : Option ℕ) → position (is_same (card_id c)) ids ≡ o → position (is_same (card_id c)) (ids ++ id ∷ []) ≡ position (is_same (card_id c)) ids

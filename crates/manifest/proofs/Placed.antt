@@ -1,4 +1,4 @@
--- The id of a card is placed where the card stands.
+-- The id of a card is placed at the place of the card.
 use Rattle.std.proofs.Common.{inl, inr, ◌⊎◌, ◌≡◌, ◌∙◌, ◌∷◌, [], ◌+◌, ◌-◌, ◌<◌, ◌≤◌, ℕ, Bool, true, false, not, List, Option, Some, None, length, get_or, nat_lt, refl, sym, ap, subst, arith, ltb-true, ltb-false}
 use Rattle.std.specs.Prelude.{option_map, position}
 use Rattle.std.specs.Cmp.Lexicographic.{bytes_decides}
@@ -24,7 +24,7 @@ has_id id = λ c. is_same (card_id c) id
 not_same : (ids : List Id) (a b : Id) → is_among ids a ≡ false → is_among ids b ≡ true → is_same a b ≡ false
 not_same ids a b out in_ids = differs a b (λ e. both_ways (is_among ids b) (ap (is_among ids) (sym e) ∙ out) in_ids)
 
--- the card with number i + 1 is of one of the batches, and the only one with its id up to there
+-- the card with number i + 1 is in one of the batches, and is the first with its id
 record IsPlaced (ids : List Id) (counts : List ℕ) (i : ℕ) (c : Card) : Type 0 where
   among : is_among ids c.batch ≡ true
   first : 1 ≤ c.k

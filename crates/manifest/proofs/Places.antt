@@ -21,7 +21,7 @@ as_place id ids counts o e = ap (option_map (λ i. i + 1)) (sym e)
 pub place_none : (id : Id) (ids : List Id) (counts : List ℕ) → AreBatches ids counts → NamesNone id → None ≡ place_of (cards_in ids counts) id
 place_none id ids counts m h = as_place id ids counts None (nowhere (has_id id) ids counts m.named m.counted (λ b v k first most. h b k v first most))
 
--- a card that has the id, though it need not be in the manifest
+-- a card that has the id, though it doesn't have to be in the manifest
 pub record HasId (id batch : Id) (k : ℕ) : Type 0 where
   pub same : card_id (card batch k) ≡ id
   pub first : 1 ≤ k

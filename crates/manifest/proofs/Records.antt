@@ -1,4 +1,4 @@
--- What is kept of linked cards, and what is recorded of one.
+-- The data kept for linked cards, and what is recorded for one card.
 use Rattle.std.proofs.Common.{◌≡◌, ◌∙◌, ◌<◌, ◌≤◌, ℕ, List, Some, length, map, take, get_or, replicate, refl, sym, ap, subst, arith}
 use Rattle.std.specs.Prelude.{All, option_map}
 use Rattle.std.specs.List.{slice_get}

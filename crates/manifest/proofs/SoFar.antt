@@ -1,4 +1,4 @@
--- Batches that are read one record after the other.
+-- Batches that are read record by record.
 use Rattle.std.proofs.Common.{◌≡◌, ◌∙◌, ◌++◌, ◌∷◌, [], ◌&&◌, ◌||◌, ◌+◌, ◌≤◌, ℕ, Bool, true, false, not, List, Option, Some, None, Ok, Err, length, nat_le, refl, sym, ap, subst, arith, leb-true, length-append}
 use Rattle.std.specs.Prelude.{if◌then◌else◌}
 use Rattle.std.specs.List.{list_all, sum}
@@ -86,7 +86,7 @@ length-le-sum (n ∷ counts) h =
     let (one, all) = and_parts (is_count n) (list_all is_count counts) h in
     omega (arith, leb-true 1 n (and_parts (nat_le 1 n) (nat_le n MOST_BATCH_CARDS) one).0, length-le-sum counts all, sum-cons n counts)
 
--- the records are these batches, and then those of the rest
+-- the records are these batches, followed by those of the rest
 pub record BatchesSoFar (rows : List Fields) (ids : List Id) (counts firsts : List ℕ) (cards : ℕ) (rest : List Fields) : Type 0 where
   pub split : batches_after [] [] 2 rows ≡ batches_after ids counts (2 + length counts) rest
   pub batches : AreBatches ids counts

@@ -1,4 +1,4 @@
--- The records of batches, judged one after the other by the records before them.
+-- The records of batches, judged one by one given the records before them.
 use Rattle.std.proofs.Common.{◌⊎◌, inl, inr, ◌≡◌, ◌∙◌, ◌++◌, ◌∷◌, [], ◌+◌, ◌<◌, ◌||◌, ℕ, zero, suc, Bool, true, false, not, List, Option, Some, None, Result, Ok, Err, length, map, take, nat_le, refl, sym, ap, subst, arith, length-append, append_assoc}
 use Rattle.std.specs.Prelude.{if◌then◌else◌}
 use Rattle.std.specs.List.{slice_get, sum}
@@ -54,7 +54,7 @@ pub record AreFine (before rest : List Fields) : Type 0 where
   pub sound : AreSound (before ++ rest)
   pub is : after before rest ≡ at_end (map row_id (before ++ rest)) (map row_cards (before ++ rest))
 
--- the record at place k of the rest is the first that breaks one
+-- the record at place k of the rest is the first that breaks a rule
 pub record AreBroken (before rest : List Fields) : Type 0 where
   pub k : ℕ
   pub rule : MRule
@@ -78,7 +78,7 @@ first-broken before row rest rule e = record {
       ∙ ap (refused rule) (omega arith);
 }
 
--- what comes behind a record that breaks none
+-- what comes after a record that breaks no rule
 module _ (before : List Fields) (row : Fields) (rest : List Fields) (e : broken_rule before row ≡ None) where
   abbrev own : Batch
   own = record { id = row_id row; cards = row_cards row }

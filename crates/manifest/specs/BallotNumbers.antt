@@ -1,4 +1,4 @@
--- What is kept of linked cards: for each card the number of its ballot, from 1, or 0.
+-- The data kept for linked cards: for each card the number of its ballot, from 1, or 0 if it has none.
 use Rattle.std.specs.Prelude.{ℕ, ◌+◌, ◌-◌, ◌==◌, ◌≤◌, if◌then◌else◌, List, [], map, length, position, slice_index_or, All, Option, Some, None}
 use Rattle.irv_base.specs.Names.{Id, is_same}
 use Rattle.manifest.specs.Cards.{card_id}

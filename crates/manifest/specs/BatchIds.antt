@@ -1,4 +1,4 @@
--- How the ids of batches are found: by a table of places, or among those that came later to their place.
+-- How the ids of batches are found: in a table of places, or among the ids that came later to their place.
 use Rattle.std.specs.Prelude.{◌≡◌, ◌≤◌, ◌-◌, ◌%◌, ◌==◌, ℕ, List, [], length, position, slice_index_or, if◌then◌else◌, Option, Some, None, IsTrue}
 use Rattle.irv_base.specs.Names.{Id, is_name, is_same}
 use Rattle.ballot_ids.specs.Ids.{digest}
@@ -7,8 +7,8 @@ use Rattle.ballot_ids.specs.Ids.{digest}
 abbrev pub place_in : ℕ → Id → ℕ
 place_in places id = digest id % places
 
--- The index of an id: `first` is the number of the id that its place in the table has, counted from 1, or 0, and `later` the index
--- that it has among those that came later to their place.
+-- The index of an id. `first` is the number, counted from 1, of the id at its place in the table, or 0. `later` is the index that it has
+-- among the ids that came later to their place.
 abbrev pub index_by : List Id → ℕ → Option ℕ → Id → Option ℕ
 index_by ids first later id =
     if first == 0 then None

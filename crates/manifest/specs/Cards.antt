@@ -15,7 +15,7 @@ pub record Batches : Type 0 where
 abbrev pub cards_of_batch : Id → ℕ → List Card
 cards_of_batch id n = map (λ k. record { batch = id; k = k }) (range_with_len 1 n)
 
--- batch after batch
+-- the cards of these batches, batch by batch
 abbrev pub cards_in : List Id → List ℕ → List Card
 cards_in [] counts = []
 cards_in (id ∷ ids) [] = []
@@ -27,7 +27,7 @@ cards_of batches = cards_in batches.ids batches.counts
 abbrev pub underscore : ℕ
 underscore = 0x5F
 
--- the batch id, an underscore and the card's number in the batch
+-- the batch id, an underscore, and the card's number in the batch
 abbrev pub card_id : Card → Id
 card_id card = card.batch ++ underscore ∷ decimal card.k
 
@@ -44,7 +44,7 @@ NamesNone id =
 abbrev pub place_of : List Card → Id → Option ℕ
 place_of cards id = option_map (λ i. i + 1) (position (λ card. is_same (card_id card) id) cards)
 
--- ---- what holds of the batches of a manifest
+-- ---- the properties of the batches of a manifest
 
 abbrev pub is_count : ℕ → Bool
 is_count n = nat_le 1 n && nat_le n MOST_BATCH_CARDS

@@ -1,10 +1,10 @@
--- What a manifest keeps besides its batches: the number of the first card of each, and the number of all.
+-- What a manifest keeps besides its batches: the number of the first card of each batch, and the number of all cards.
 use Rattle.std.specs.Prelude.{◌≡◌, ◌+◌, ◌≤◌, ℕ, List, [], ◌∷◌, length}
 use Rattle.std.specs.List.{sum}
 use Rattle.irv_base.specs.Names.{Id}
 use Rattle.manifest.specs.Cards.{AreBatches}
 
--- batch after batch, the next card having number a
+-- batch by batch, where the next card has number a
 abbrev pub firsts_from : ℕ → List ℕ → List ℕ
 firsts_from a [] = []
 firsts_from a (n ∷ counts) = a ∷ firsts_from (a + n) counts

@@ -1,14 +1,14 @@
--- Ids in words of eight bytes, by which they are compared.
+-- Ids as words of eight bytes, by which they are compared.
 use Rattle.std.specs.Prelude.{ℕ, ◌-◌, List, [], ◌∷◌, ◌++◌, length, take, drop, replicate, map}
 use Rattle.std.specs.Int.{w64, from_be_bytes}
 use Rattle.irv_base.specs.Names.{Id}
 use Rattle.irv_base.specs.declared.limits.TheConstants.{MOST_NAME_BYTES}
 
--- the eight bytes from a place on, the first most significant
+-- the eight bytes from a place on, most significant first
 unfoldable pub word_at : List ℕ → ℕ → ℕ
 word_at text at = from_be_bytes w64 (take 8 (drop at text))
 
--- an id followed by zeros
+-- an id padded with zeros
 abbrev pub filled : Id → List ℕ
 filled id = id ++ replicate (MOST_NAME_BYTES - length id) 0
 

@@ -21,7 +21,7 @@ CardUndoesPlace =
     (batches : Batches) (id : Id) (i : ℕ) → place_of (cards_of batches) id ≡ Some (i + 1) →
     (card : Card) × (slice_get (cards_of batches) i ≡ Some card) × (card_id card ≡ id)
 
--- no two cards have one id
+-- no two cards have the same id
 abbrev pub CardIdsDiffer : Type 0
 CardIdsDiffer =
     (batches : Batches) (i j : ℕ) (card other : Card) → AreBatches batches.ids batches.counts →
@@ -38,7 +38,7 @@ BallotsAreLinked =
     slice_get file.rankings i ≡ Some ranking → place_of (cards_of batches) id ≡ Some (k + 1) →
     slice_get (linked_of batches file) k ≡ Some (Ranked ranking)
 
--- no two ballots name one card
+-- no two ballots name the same card
 abbrev pub LinksDiffer : Type 0
 LinksDiffer =
     (batches : Batches) (file : BallotFile) (i j place : ℕ) (id other : Id) →

@@ -1,4 +1,4 @@
--- What a manifest says, or why and at which place it is refused.
+-- What a manifest says, or why it is refused and at which place.
 use Rattle.std.specs.Prelude.{ℕ, ◌+◌, Bool, false, not, ◌&&◌, ◌||◌, nat_le, if◌then◌else◌, List, [], ◌∷◌, ◌++◌, Option, Some, None, Result, Ok, Err, codes}
 use Rattle.std.specs.List.{sum}
 use Rattle.csv_rows.specs.Fields.{numbered_records}
@@ -22,7 +22,7 @@ is_header (first ∷ second ∷ next ∷ rest) = false
 
 -- ---- a batch's record: its id, and the number of its cards
 
--- the batch with its number of cards, or the rule that the number breaks after this many other cards
+-- the batch with its number of cards, or the rule that the number breaks when there are this many other cards
 abbrev pub batch_with : Id → ℕ → Option ℕ → Result Batch MRule
 batch_with id others None = Err M3
 batch_with id others (Some n) =
@@ -45,7 +45,7 @@ abbrev pub at_end : List Id → List ℕ → Result Batches (Refusal MRule)
 at_end [] counts = refused M6 1
 at_end (id ∷ ids) counts = Ok (record { ids = id ∷ ids; counts = counts })
 
--- after batches with these ids and numbers of cards come the records from number at on
+-- batches with these ids and numbers of cards, followed by the records from number at on
 abbrev pub batches_after : List Id → List ℕ → ℕ → List Fields → Result Batches (Refusal MRule)
 batches_after ids counts at [] = at_end ids counts
 batches_after ids counts at (row ∷ rows) =

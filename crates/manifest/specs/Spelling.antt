@@ -1,4 +1,4 @@
--- What the records of a manifest spell, and which of them breaks a rule first. Each rule is stated of records alone.
+-- What the records of a manifest spell, and which record is the first to break which rule. Each rule is stated only in terms of records.
 use Rattle.std.specs.Prelude.{◌≡◌, ◌⊎◌, ◌↔◌, ◌≤◌, ◌<◌, ℕ, ◌+◌, false, true, not, ◌||◌, nat_le, if◌then◌else◌, List, [], ◌∷◌, map, length, slice_index_or, Option, Some, None, Ok, Err, codes}
 use Rattle.std.specs.List.{slice_get, sum}
 use Rattle.csv_rows.specs.Broken.{IsFirstBroken}
@@ -25,7 +25,7 @@ pub record Spells (rows : List Fields) (batches : Batches) : Type 0 where
 
 -- ---- what is broken
 
--- the number that is written so; 0, which counts nothing, if there is none
+-- the number that is written this way; if there is none, 0, which adds nothing
 abbrev pub number_or_0 : Option ℕ → ℕ
 number_or_0 None = 0
 number_or_0 (Some n) = n
@@ -39,8 +39,8 @@ row_cards [] = 0
 row_cards (id ∷ []) = 0
 row_cards (id ∷ number ∷ rest) = number_or_0 (number_of number)
 
--- the first rule that a batch's record breaks, after the records of other batches: it has two fields; its id is one, and was in none of
--- them; it has a number of cards, and with theirs it isn't too many
+-- The first rule that a batch's record breaks, after the records of other batches. It must have two fields. Its id must be an id and be in
+-- none of those records. It must have a number of cards, and its cards together with theirs mustn't be too many.
 abbrev pub broken_rule : List Fields → Fields → Option MRule
 broken_rule before [] = Some M2
 broken_rule before (id ∷ []) = Some M2
@@ -51,7 +51,7 @@ broken_rule before (id ∷ number ∷ []) =
     else Some M5) else Some M3)
 broken_rule before (id ∷ number ∷ next ∷ rest) = Some M2
 
--- there is no header, or there is no batch, or a batch's record breaks a rule; the first batch's record has number 2
+-- there is no header, or there is no batch, or the record of a batch breaks a rule; the first batch's record has number 2
 abbrev pub IsRefusedIn : List Fields → MRule → ℕ → Type 0
 IsRefusedIn [] rule at = (rule ≡ M1) × (at ≡ 1)
 IsRefusedIn (header ∷ batches) rule at =

@@ -14,12 +14,12 @@ use csv::ByteRecord;
 use csv_rows::{number_of, trimmed};
 use irv_base::{MOST_CARDS, Memory, Name};
 
-/// A batch: its id, and how many cards it has.
+/// A batch: its id and the number of its cards.
 #[derive(Clone, Copy)]
 pub struct Batch {
-    /// Its id, with which the ids of its cards begin.
+    /// Its id. The ids of its cards begin with it.
     pub id: Name,
-    /// How many cards it has, 1 to `MOST_BATCH_CARDS`.
+    /// The number of its cards, 1 to `MOST_BATCH_CARDS`.
     pub cards: u32,
 }
 
@@ -35,7 +35,7 @@ fn pair_of(row: &ByteRecord) -> Option<(&[u8], &[u8])>
     Some((trimmed(row.get(0)?), trimmed(row.get(1)?)))
 }
 
-/// The record has the fields `batch` and `cards`.
+/// Whether the record has the fields `batch` and `cards`.
 pub fn is_header(row: &ByteRecord) -> bool
     ensures { result ≡ is_header (trimmed_fields (fields_of row.now)) }
 {
@@ -45,7 +45,7 @@ pub fn is_header(row: &ByteRecord) -> bool
     }
 }
 
-/// The batch id with these bytes, if they are one.
+/// The batch id with these bytes, if they form one.
 pub fn batch_id(bytes: &[u8]) -> Option<Name>
     ensures id { IfSome result (λ id. id ≡ bytes.now) }
     ensures valid { IfSome result (λ _. IsTrue (is_batch_id bytes.now)) }
@@ -74,7 +74,7 @@ fn batch_with(id: Name, others: u32, number: &[u8]) -> Result<Batch, MRule>
 }
 
 /// The batch of a record, or the first rule that the record breaks, after batches with these ids and this many cards. The id of the batch
-/// is put last among them.
+/// is appended to the ids.
 pub fn batch_of(
     ids: &mut BatchIds,
     others: u32,

@@ -1,4 +1,4 @@
-// The ids of batches, and which batch has one.
+// The ids of batches, and which batch has which id.
 ghost use Rattle.std.specs.Prelude.{◌≡◌, ◌≤◌, ◌<◌, ◌++◌, ◌∷◌, [], ℕ, List, Some, IfOk, IfSome, OnErr, if◌then◌else◌, length, not, position, slice_get};
 ghost use Rattle.std.specs.BTreeMap.{get};
 ghost use Rattle.std.specs.Cmp.Lexicographic.{slice_cmp};
@@ -17,16 +17,16 @@ use std::marker::Model;
 
 /// The ids of batches, all different.
 ///
-/// Each id has a place in a table, and the first one of a place is found there. The author of a file can foresee which ids share a place,
-/// and a file may have many of them. So those that come later to their place are kept in order, and none is slow to find.
+/// Each id has a place in a table, and the first id at a place is found there. The author of a file can predict which ids share a place,
+/// and a file may have many of them. So the ids that come to their place later are kept sorted, and no id is slow to find.
 ///
 /// To a contract it is the list of the ids.
 #[derive(Drop)]
 pub struct BatchIds {
     ids: Vec<Name>,
-    // at each place the number of the first id that has it, counted from 1, or 0
+    // for each place, the number of the first id that has it, counted from 1, or 0
     table: Vec<u32>,
-    // the indices of those that came later to their place
+    // the indices of the ids that came later to their place
     later: BTreeMap<IdWords, u32>,
 }
 
@@ -64,7 +64,7 @@ fn place_in(places: usize, id: &[u8]) -> usize
     (digest(id) % places as u64) as usize
 }
 
-// The index that is kept under the words of an id: this one, if none was there.
+// The index that is kept under the words of an id. It is this one if there was none.
 fn index_under(
     later: &mut BTreeMap<IdWords, u32>,
     words: IdWords,
@@ -82,7 +82,7 @@ fn index_under(
 }
 
 impl BatchIds {
-    /// No ids, with a table of one place more than `places`.
+    /// No ids, with a table that has one place more than `places`.
     pub fn nothing(alloc: Global, places: usize) -> Result<BatchIds, Memory>
         ensures { IfOk result (λ ids. ids ≡ []) }
     {
@@ -120,7 +120,8 @@ impl BatchIds {
         }
     }
 
-    /// Puts an id last if it isn't one of them, and answers whether it wasn't. For as many as `u32::MAX` the answer is `Memory`.
+    /// Appends an id if it isn't one of them, and returns whether it was appended. If there are `u32::MAX` ids already, the result is
+    /// `Memory`.
     pub fn put(&mut self, id: Name) -> Result<bool, Memory>
         ensures new { IfOk result (λ new. new ≡ not (is_among self.old id)) }
         ensures put { IfOk result (λ new.

@@ -1,4 +1,4 @@
-//! Worked examples, computed by the checker: what is on both sides of each limit of a manifest.
+//! Worked examples, computed by the checker: what lies on both sides of each limit of a manifest.
 ghost use Rattle.std.specs.Prelude.{◌≡◌, ◌+◌, [], ◌∷◌, Some, None, true, false, codes, map, replicate};
 ghost use Rattle.manifest.specs.Cards.{card_id, cards_of, is_batch_id, is_count, place_of};
 ghost use Rattle.manifest.specs.Spelling.{broken_rule};
@@ -19,7 +19,7 @@ pub fn batch_cards()
     ensures over { is_count 1000001 ≡ false }
 {}
 
-/// All batches have up to 10,000,000 cards: a tenth batch of 1,000,000 is within that, and one card more isn't.
+/// All batches together have up to 10,000,000 cards: a tenth batch of 1,000,000 is within that limit, and one more card isn't.
 pub fn all_cards()
     ensures most { broken_rule (replicate 9 (codes "a" ∷ codes "1000000" ∷ []))
         (codes "b" ∷ codes "1000000" ∷ []) ≡ None }
@@ -27,14 +27,15 @@ pub fn all_cards()
         (codes "b" ∷ codes "1" ∷ []) ≡ Some M5 }
 {}
 
-/// The cards of each batch count from 1, batch after batch, and so do their ids.
+/// The cards of each batch are numbered from 1, batch by batch, and so are their ids.
 pub fn card_ids()
     ensures { map card_id
         (cards_of (record { ids = codes "a" ∷ codes "b_1" ∷ []; counts = 2 ∷ 1 ∷ [] }))
         ≡ codes "a_1" ∷ codes "a_2" ∷ codes "b_1_1" ∷ [] }
 {}
 
-/// The places of cards count from 1. A number of a card has no leading zero, is at least 1, and is at most that of its batch.
+/// The places of cards are numbered from 1. The number of a card has no leading zero, is at least 1, and is at most the number of cards in
+/// its batch.
 pub fn places()
     ensures first { place_of (cards_of (record { ids = codes "a" ∷ []; counts = 2 ∷ [] }))
         (codes "a_1") ≡ Some 1 }
@@ -50,7 +51,7 @@ pub fn places()
         (codes "a-1") ≡ None }
 {}
 
-/// A record of a batch breaks M2 by its fields, then M4 by its id, then M3 by its number, and only then M5.
+/// The record of a batch breaks M2 by its fields, then M4 by its id, then M3 by its number, and only then M5.
 pub fn rules()
     ensures fields { broken_rule [] (codes "" ∷ codes "0" ∷ codes "" ∷ []) ≡ Some M2 }
     ensures id { broken_rule [] (codes "" ∷ codes "0" ∷ []) ≡ Some M4 }

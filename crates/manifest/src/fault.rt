@@ -10,9 +10,9 @@ pub enum MRule {
     M1,
     /// Each other record has two fields.
     M2,
-    /// The number of cards of a batch.
+    /// The number of cards in a batch.
     M3,
-    /// The id of a batch, and that all are different.
+    /// The id of a batch, and that all batch ids are different.
     M4,
     /// The number of all cards.
     M5,
@@ -35,5 +35,5 @@ impl Rule for MRule {
     }
 }
 
-/// Why a manifest isn't read: the place is a record's number from 1, without the blank ones.
+/// Why a manifest isn't read. The place is the number of a record, from 1, not counting blank ones.
 pub type ManifestFault = Fault<MRule>;

@@ -1,4 +1,4 @@
-// Ids in words of eight bytes.
+// Ids as words of eight bytes.
 ghost use Rattle.std.specs.Prelude.{◌≡◌, ◌+◌, ◌≤◌, ◌==◌, length};
 ghost use Rattle.std.proofs.Common.{refl};
 ghost use Rattle.std.specs.Cmp.{partial_equiv_from_equiv, partial_order_from_agreeing_total};
@@ -13,9 +13,9 @@ use std::marker::Model;
 // This many words have room for the longest id.
 const WORDS: usize = 8;
 
-/// The bytes of an id in words, followed by zeros: two of these are compared in a few steps.
+/// The bytes of an id as words, padded with zeros. Two of these are compared in a few steps.
 ///
-/// To a contract it is the list of the words. No two ids have the same.
+/// To a contract it is the list of the words. No two ids have the same words.
 #[derive(Clone, Copy)]
 pub struct IdWords([u64; WORDS]);
 
@@ -29,7 +29,7 @@ impl Model for IdWords {
     ghost inverse = { λ words. record { 0 = words } };
 }
 
-// The eight bytes from a place on, the first most significant.
+// The eight bytes from a place on, most significant first.
 #[tactic(auto, unfolding(crate::specs::IdWords::word_at))]
 fn word_at(text: &[u8], at: usize) -> u64
     requires { at + 8 ≤ length text.now }

@@ -1,4 +1,4 @@
-//! The laws of manifests, their cards, and the ballots of these. None has code.
+//! The laws of manifests, of their cards, and of the ballots of the cards. They have no code.
 ghost use Rattle.std.specs.Prelude.{◌≡◌};
 ghost use Rattle.manifest.specs.declared.limits.TheConstants as limit;
 ghost use Rattle.manifest.specs.Spelling.{FirstBrokenRuleRefuses, RecordsSpellBatches};
@@ -19,7 +19,7 @@ pub fn card_ids_differ()
     ensures { CardIdsDiffer }
 {}
 
-/// The ranking of each ballot is recorded of the card that its id names.
+/// The ranking of each ballot is recorded for the card that its id names.
 pub fn ballots_are_linked()
     ensures { BallotsAreLinked }
 {}
@@ -29,12 +29,13 @@ pub fn links_differ()
     ensures { LinksDiffer }
 {}
 
-/// Records are read as batches exactly if they spell them: the header, and a record of an id and a number for each.
+/// Records are read as batches exactly if they spell them: the header, and for each batch a record of its id and its number of cards.
 pub fn records_spell_batches()
     ensures { RecordsSpellBatches }
 {}
 
-/// Records are refused exactly by the first rule that the first of them breaks, and there. Each rule is one of records alone.
+/// Records are refused exactly by the first rule that the first faulty record breaks, and at that record. Each rule is stated only in terms
+/// of records.
 pub fn first_broken_rule_refuses()
     ensures { FirstBrokenRuleRefuses }
 {}

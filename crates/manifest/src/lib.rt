@@ -1,4 +1,4 @@
-//! Ballot manifests: which cards there are, and what number each has.
+//! Ballot manifests: which cards there are, and which number each card has.
 #![tactic(auto)]
 
 mod batch;

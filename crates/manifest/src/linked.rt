@@ -1,4 +1,4 @@
-// The cards of a manifest with what a ballot file has of them.
+// The cards of a manifest, with what a ballot file has for them.
 ghost use Rattle.std.specs.Prelude.{◌≡◌, ◌≤◌, ◌-◌, length, slice_get, Some, None, IfOk, IfErr};
 ghost use Rattle.manifest.specs.Cards.{cards_of};
 ghost use Rattle.manifest.specs.Linked.{RefusesLink, first_without_card, linked_of};
@@ -13,12 +13,12 @@ use irv_base::Rankings;
 use std::alloc::Global;
 use std::marker::Model;
 
-// The number of a card's ballot if it has none. Others count from 1.
+// The number given for a card that has no ballot. Ballots are numbered from 1.
 const NO_BALLOT: u32 = 0;
 
-/// The cards of a manifest, each with what a ballot file has of it.
+/// The cards of a manifest, each with what a ballot file has for it.
 ///
-/// To a contract it is the list of what is recorded of each card, in the order of the cards.
+/// To a contract it is the list of what is recorded for each card, in the order of the cards.
 #[derive(Drop)]
 pub struct Linked {
     numbers: Vec<u32>,
@@ -38,7 +38,7 @@ impl Model for Linked {
 }
 
 impl Linked {
-    /// How many cards there are.
+    /// The number of cards.
     pub fn cards(&self) -> u32
         ensures all { result ≡ length self.now }
         ensures most { result ≤ MOST_CARDS }
@@ -46,7 +46,7 @@ impl Linked {
         self.numbers.len() as u32
     }
 
-    /// What is recorded of the card with number `i`, from 1.
+    /// What is recorded for the card with number `i`, from 1.
     pub fn recorded(&self, i: u32) -> Recorded
         requires first { 1 ≤ i }
         requires last { i ≤ length self.now }
@@ -60,7 +60,7 @@ impl Linked {
     }
 }
 
-// The number of the ballot of each card.
+// For each card, the number of its ballot.
 fn numbers_of(alloc: Global, m: &Manifest, b: &Ballots) -> Result<Vec<u32>, LinkFault>
     ensures numbers { IfOk result (λ numbers.
         numbers.items ≡ ballot_numbers b.now.ids (cards_of m.now)) }
@@ -81,9 +81,10 @@ fn numbers_of(alloc: Global, m: &Manifest, b: &Ballots) -> Result<Vec<u32>, Link
     Ok(numbers)
 }
 
-/// Links the ballots of a file to the cards of a manifest: a card has the ballot whose id is the card's.
+/// Links the ballots of a file to the cards of a manifest. A card has the ballot whose id is the id of the card.
 ///
-/// Rule M7 asks that the id of each ballot is that of a card. It is answered with the record of the first ballot that breaks it.
+/// Rule M7 requires that the id of each ballot is the id of a card. If ballots break it, the result names the record of the first one that
+/// does.
 pub fn link(alloc: Global, m: &Manifest, b: &Ballots) -> Result<Linked, LinkFault>
     ensures linked { IfOk result (λ linked. linked ≡ linked_of m.now b.now) }
     ensures all_placed { IfOk result (λ _. first_without_card m.now b.now ≡ None) }

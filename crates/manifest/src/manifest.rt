@@ -12,17 +12,17 @@ use crate::card::Card;
 use crate::number::card_number;
 use std::marker::Model;
 
-/// A ballot manifest: batches of cards, whose ids are all different.
+/// A ballot manifest: batches of cards. The ids of the batches are all different.
 ///
-/// A batch has 1 to `MOST_BATCH_CARDS` cards, and there are 1 to `MOST_CARDS` in all. The cards are numbered from 1 through the
+/// A batch has 1 to `MOST_BATCH_CARDS` cards, and there are 1 to `MOST_CARDS` cards in all. The cards are numbered from 1 through the
 /// batches in order.
 ///
-/// To a contract it is the record of the batches' ids and of their numbers of cards.
+/// To a contract it is the record of the batches' ids and their numbers of cards.
 #[derive(Drop)]
 pub struct Manifest {
     ids: BatchIds,
     counts: Vec<u32>,
-    // the number of each batch's first card
+    // the number of the first card in each batch
     firsts: Vec<u32>,
     cards: u32,
 }
@@ -38,7 +38,7 @@ impl Model for Manifest {
     ghost invariant = { λ m. IsManifest m.ids m.counts.items m.firsts.items m.cards };
 }
 
-// The bytes before the last underscore, and those after it.
+// The bytes before the last underscore, and the bytes after it.
 fn cut(id: &[u8]) -> Option<(&[u8], &[u8])>
     ensures parts { IfSome result (λ parts. id.now ≡ parts.0.now ++ underscore ∷ parts.1.now) }
     ensures last { IfSome result (λ parts. list_any (λ b. b == underscore) parts.1.now ≡ false) }
@@ -54,7 +54,7 @@ fn cut(id: &[u8]) -> Option<(&[u8], &[u8])>
     None
 }
 
-// The card of some batch that has this id, if one may have it.
+// The card of some batch that has this id, if any card can have it.
 fn card_named(id: &[u8]) -> Option<Card>
     ensures named { IfSome result (λ card. card_id card ≡ id.now) }
     ensures first { IfSome result (λ card. 1 ≤ card.k) }
@@ -73,7 +73,7 @@ fn card_named(id: &[u8]) -> Option<Card>
     Some(Card { batch, k })
 }
 
-// The last batch whose first card has no greater number than i, found by halving.
+// The last batch whose first card has a number of at most i, found by binary search.
 fn batch_of_card(firsts: &[u32], i: u32) -> usize
     requires some { 1 ≤ length firsts.now }
     requires first { slice_index_or firsts.now 0 0 ≤ i }
@@ -107,7 +107,7 @@ impl Manifest {
         }
     }
 
-    /// How many cards there are.
+    /// The number of cards.
     pub fn cards(&self) -> u32
         ensures all { result ≡ length (cards_of self.now) }
         ensures some { 1 ≤ result }
@@ -130,8 +130,8 @@ impl Manifest {
         }
     }
 
-    /// The number of the card with that id, from 1: the id of its batch, an underscore, and its number in the batch, from 1, in
-    /// decimal without leading zeros.
+    /// The number of the card with that id, from 1. The id is the id of the card's batch, an underscore, and the card's number in the
+    /// batch, from 1, in decimal without leading zeros.
     pub fn place(&self, id: &[u8]) -> Option<u32>
         ensures { result ≡ place_of (cards_of self.now) id.now }
     {

@@ -6,7 +6,7 @@ ghost use Rattle.manifest.specs.declared.limits.TheConstants.{MOST_BATCH_CARDS};
 use crate::limits::MOST_BATCH_CARDS;
 use csv_rows::number_of;
 
-/// The number of a card that is written so, without leading zeros.
+/// The number of a card that is written this way, without leading zeros.
 pub fn card_number(text: &[u8]) -> Option<u32>
     ensures written { IfSome result (λ k. decimal k ≡ text.now) }
     ensures first { IfSome result (λ k. 1 ≤ k) }

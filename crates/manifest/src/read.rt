@@ -1,4 +1,4 @@
-// Reading a manifest.
+// Reads a manifest.
 ghost use Rattle.std.specs.Prelude.{◌≡◌, [], Ok, IfOk, IfErr};
 ghost use Rattle.csv_rows.specs.Fields.{numbered};
 ghost use Rattle.file_fault.specs.Refusals.{Refuses};
@@ -12,13 +12,14 @@ use csv::ByteRecord;
 use csv_rows::{Rows, without_mark};
 use std::alloc::Global;
 
-// The record of the first batch, counted from 1: the header comes before it.
+// The record of the first batch, counted from 1. The header comes before it.
 const FIRST_BATCH: u32 = 2;
 
-// The table of ids has one place for each group of this many bytes of a file. A record has several times as many, so most ids have a place alone.
+// The table of ids has one place for each group of this many bytes of a file. A record has several times that many bytes, so most ids have
+// a place of their own.
 const BYTES_A_PLACE: usize = 2;
 
-// The manifest of the batches in the records that are left.
+// The manifest of the batches in the remaining records.
 fn batches_left(
     alloc: Global,
     bytes: usize,
@@ -52,14 +53,14 @@ fn batches_left(
 
 /// Reads a manifest.
 ///
-/// The first record is `batch,cards`. Each other one is a batch id and its number of cards, in 1 to `irv_base::MOST_NUMBER_DIGITS`
-/// digits. Spaces and tabs around a field are removed. If the only field of a record is then empty, it is skipped and has no number. A
-/// byte order mark at the front is removed.
+/// The first record is `batch,cards`. Every other record is a batch id and the batch's number of cards, in 1 to
+/// `irv_base::MOST_NUMBER_DIGITS` digits. Spaces and tabs around a field are removed. If the only field of a record is then empty, the
+/// record is skipped and has no number. A byte order mark at the front is removed.
 ///
-/// It is refused by the first rule that a record breaks, in the order M2, M4, M3, M5 within a record: by M1 at 1 if the first record is
-/// missing or another, by M2 at a record that doesn't have two fields, by M4 if the batch id is no id, is longer than `MOST_BATCH_BYTES`
-/// or came before, by M3 if the number isn't 1 to `MOST_BATCH_CARDS`, by M5 if the cards up to here are more than `MOST_CARDS`, and by M6
-/// at 1 if there is no batch.
+/// The manifest is refused by the first rule that a record breaks, in the order M2, M4, M3, M5 within a record: by M1 at 1 if the first
+/// record is missing or isn't the header, by M2 at a record that doesn't have two fields, by M4 if the batch id isn't an id, is longer than
+/// `MOST_BATCH_BYTES` or came before, by M3 if the number isn't 1 to `MOST_BATCH_CARDS`, by M5 if there are more than `MOST_CARDS` cards up
+/// to this record, and by M6 at 1 if there is no batch.
 pub fn read_manifest(alloc: Global, bytes: &[u8]) -> Result<Manifest, ManifestFault>
     ensures read { IfOk result (λ manifest. manifest_of bytes.now ≡ Ok manifest) }
     ensures refused { IfErr result (Refuses (manifest_of bytes.now)) }

@@ -1,8 +1,8 @@
-// What is recorded of a card.
+// What is recorded for a card.
 
 use irv_base::Ranking;
 
-/// What a ballot file has of a card.
+/// What a ballot file has for a card.
 #[derive(Clone, Copy)]
 pub enum Recorded {
     /// The card has a ballot, with this ranking.

@@ -7,7 +7,7 @@ use Rattle.km_risk.proofs.Factors.{divided_up-most, stays}
 use Rattle.km_risk.proofs.Quotients.{corrected, product-not_above, product-not_far_below}
 use Rattle.km_risk.proofs.falling.Falling.times.Goals as goal
 
--- the quotient and the rest, of numbers as wide as their products need
+-- the quotient and the remainder, of numbers as wide as their products need
 module _ (risk over under scaled w f u e : ℕ) (few : risk ≤ ONE) (falls : over < under) (rounded : scaled ≡ over * 2 ^ 64 / under)
     (is-w : w ≡ risk) (is-f : f ≡ scaled) (is-u : u ≡ over) (is-e : e ≡ under) where
   quotient-is : w * f / 2 ^ 64 ≡ risk * scaled / 2 ^ 64

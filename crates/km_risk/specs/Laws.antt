@@ -97,8 +97,7 @@ ProductReachLaw =
     product_reach over under limit values [] n
     ≡ count_by (some_prefix (is_product_within over under limit)) (sequences values n)
 
--- if the mean of the numerators of the cards' factors is at most that of the denominators, these are at most limit millionths of all
--- sequences
+-- if the mean of the denominators of the cards' factors is at most the numerator, these are at most limit millionths of all sequences
 abbrev pub ProductCountingLaw : Type 0
 ProductCountingLaw =
     (over limit : ℕ) (under : ℕ → ℕ) (values : List ℕ) →

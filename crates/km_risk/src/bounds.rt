@@ -103,7 +103,8 @@ impl Bounds {
     }
 }
 
-/// Draws whose risk is certainly above the limit: as many as can be found by steps of this many draws, and of half as many, and so on.
+/// Draws whose risk is surely above the limit: as many as steps of this many draws find, after steps of twice as many, of four times as
+/// many, and so on, the largest first.
 pub fn climb(setting: Setting, limit: u32, most: u32, step: Bounds) -> Bounds
     requires limit { limit ≤ GREATEST_LIMIT }
     requires some { 1 ≤ step.draws }

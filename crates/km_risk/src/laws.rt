@@ -67,7 +67,8 @@ pub fn reaching_of_any_factor()
     ensures { ProductReachLaw }
 {}
 
-/// If factors have a mean of at most one, at most `limit` millionths of all sequences of draws ever have a product within the limit.
+/// If the inverses of the factors have a mean of at most one, at most `limit` millionths of all sequences of draws ever have a product
+/// within the limit.
 pub fn counting_of_any_factor()
     ensures { ProductCountingLaw }
 {}

@@ -32,7 +32,7 @@ nebs_by n records floor w = filter (is_enough n records floor) (map (Neb w) (can
 abbrev pub nebs : ℕ → List (List ℕ) → ℕ → List Assertion
 nebs n records floor = flat_map (nebs_by n records floor) (candidates n)
 
--- the NEN of w over this loser is of the floor and has this margin, and no other NEN that keeps w from being eliminated next from the set
+-- the NEN of w over this loser is of the floor and has this margin, and no other NEN that says that w isn't eliminated next from the set
 -- has a larger one
 pub record IsStrongest (n : ℕ) (records : List (List ℕ)) (floor w rest loser margin : ℕ)
     : Type 0 where
@@ -41,7 +41,7 @@ pub record IsStrongest (n : ℕ) (records : List (List ℕ)) (floor w rest loser
   pub most : (l : ℕ) → IsTrue (is_enough n records floor (Nen w l rest)) →
       true_margin records (Nen w l rest) ≤ margin
 
--- the strongest NEN of the floor that keeps w from being eliminated next from the set, if there is one
+-- the strongest NEN of the floor that says that w isn't eliminated next from the set, if there is one
 abbrev pub IsCutter : ℕ → List (List ℕ) → ℕ → ℕ → ℕ → Option Strongest → Type 0
 IsCutter n records floor w rest None =
     (l : ℕ) → IsFalse (is_enough n records floor (Nen w l rest))

@@ -35,7 +35,7 @@ grows : (k n b : ℕ) → n < room (suc k) → b < 256 → n * 256 + b < room k
 unfolding room
 grows k n b less small = omega (arith, less, small)
 
--- a byte more
+-- one more byte
 put : (k n b : ℕ) → n < room (suc k) → b < 256 → (n * 2 ^ 8 % 2 ^ 64 + b) % 2 ^ 64 ≡ n * 256 + b
 put k n b less small =
     let more = grows k n b less small in
@@ -123,7 +123,7 @@ same-id a b a-bytes b-bytes long fronts numbers bits =
     let last = alike k 0 0 a-rest b-rest refl b-long few few (drop-bytes (length a - 5) a a-bytes) (drop-bytes (length b - 5) b b-bytes) counts in
     sym (front-and-last a) ∙ ap₂ (λ xs ys. xs ++ ys) fronts last.bytes ∙ front-and-last b
 
--- ---- one bit more on a page
+-- ---- one more bit on a page
 
 same-parts : (like id other : Id) → is_like (Some like) id ≡ true → is_like (Some like) other ≡ true → (length id ≡ length other) × (front id ≡ front other)
 same-parts like id other own its =
@@ -137,7 +137,7 @@ alike-on : (like : Option Id) (id other : Id) → is_like like id ≡ true → i
 alike-on None id other own its = absurd (false≢true own)
 alike-on (Some like) id other own its = same-parts like id other own its
 
--- of the ids on a page the bit tells which it is
+-- the bit distinguishes the ids on a page
 told : (page : Page) (id other : Id) → AreBytes id → AreBytes other → is_of page id ≡ true → is_of page other ≡ true →
     page_number other ≡ page_number id → (bit_of (counted other) == bit_of (counted id)) ≡ is_same id other
 told page id other id-bytes other-bytes own its numbers =
@@ -172,7 +172,7 @@ one-more page id other bits id-bytes other-bytes own numbers h = elim (cases_Boo
       ∙ ap (λ b. is_same id other || (b && has_bit page.bits (bit_of (counted other)))) (sym not_its)
 ]
 
--- ids with pages of other numbers differ
+-- ids whose pages have other numbers differ
 pub other-page : (id other : Id) → page_number other ≢ page_number id → is_same id other ≡ false
 other-page id other h = elim (cases_Bool (is_same id other)) [
   | inl same ↦ absurd (h (ap page_number (sym ((bytes_decides id other).0 same))))

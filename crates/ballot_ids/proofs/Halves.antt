@@ -28,7 +28,7 @@ same-halves w a b long fewest most first behind =
     ∙ sym (behind-first w b (omega (arith, long, fewest)) (omega (arith, long, most))))
     ∙ take-append-drop w b
 
--- ids whose first elements are the same, where two numbers are the same just where their last elements are
+-- ids whose first elements are the same, given that two numbers are the same exactly if the ids' last elements are
 pub same-by-last : (w : ℕ) (a b : Id) (x y : ℕ) → length a ≡ length b → w ≤ length a → length a ≤ w + w → take w a ≡ take w b →
     (x ≡ y → last w a ≡ last w b) → (last w a ≡ last w b → x ≡ y) → (x == y) ≡ is_same a b
 same-by-last w a b x y long fewest most first tells told =

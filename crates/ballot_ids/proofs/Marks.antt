@@ -17,7 +17,7 @@ use Rattle.ballot_ids.proofs.Words.{nothing-set}
 
 -- ---- numbers of bytes
 
--- how much may stand in front of so many bytes, that the number doesn't begin anew
+-- the bound for a number in front of this many bytes, such that the result doesn't wrap
 room : ℕ → ℕ
 room zero = 2 ^ 64
 room (suc k) = room k / 256
@@ -51,7 +51,7 @@ record Alike (n m : ℕ) (xs ys : List ℕ) : Type 0 where
   before : n ≡ m
   bytes : xs ≡ ys
 
--- a number tells its bytes, of which there are so many
+-- a number determines its bytes, if their count is known
 alike : (k n m : ℕ) (xs ys : List ℕ) → length xs ≡ k → length ys ≡ k → n < room k → m < room k
     → list_all (λ x. nat_lt x 256) xs ≡ true → list_all (λ x. nat_lt x 256) ys ≡ true
     → number_behind n xs ≡ number_behind m ys → Alike n m xs ys
@@ -72,11 +72,11 @@ alike (suc k) n m (x ∷ xs) (y ∷ ys) long same less few xs-bytes ys-bytes h =
 
 -- ---- numbers of pages
 
--- numbers that begin anew at 2 ^ 64
+-- numbers that wrap at 2 ^ 64
 same-behind : (d i j : ℕ) → i < 2 ^ 64 → j < 2 ^ 64 → (d + i) % 2 ^ 64 ≡ (d + j) % 2 ^ 64 → i ≡ j
 same-behind d i j less few h = omega (arith, less, few, h)
 
--- what is counted is told by the bit and by what is added to the digest
+-- the bit and what is added to the digest determine what is counted
 same-count : (c e : ℕ) → c / 4096 * 16 + c / 16 % 16 ≡ e / 4096 * 16 + e / 16 % 16 → bit_of c ≡ bit_of e → c ≡ e
 same-count c e page bit = omega (arith, page, bit)
 
@@ -208,7 +208,7 @@ are-bytes (b ∷ id) h = and_from (nat_lt b 256) (list_all (λ x. nat_lt x 256) 
 pub lies : (pages : Pages) (number : ℕ) → pages.open ≡ number → page_at pages number ≡ Some pages.page
 lies pages number h = ap (λ b. if b then Some pages.page else get nat_cmp pages.closed number) (eq-eqb number pages.open (sym h))
 
--- what another page lies open changes nothing of the others
+-- a change to the open page changes nothing about the others
 pub beside : (pages : Pages) (page : Page) (n number : ℕ) → pages.open ≡ number → n ≢ number →
     page_at (record { «open» = pages.open; page = page; closed = pages.closed }) n ≡ page_at pages n
 beside pages page n number h away =
@@ -223,7 +223,7 @@ kept-paged old new number other others same = elim (cases_eq (page_number other)
   | inr away ↦ ap (λ p. is_on p other) (others (page_number other) away)
 ]
 
--- that a page is opened marks no id
+-- opening a page marks no id
 pub turned-same : (old new : Pages) (number : ℕ) (id other : Id) → HasTurned old new number id → is_paged new other ≡ is_paged old other
 turned-same old new number id other told =
     kept-paged old new number other told.others
@@ -239,7 +239,7 @@ kept-elsewhere old new number other others same h = elim (cases_eq (page_number 
   | inr away ↦ ap (λ p. is_for_others p other) (others (page_number other) away) ∙ h
 ]
 
--- whom a page is for stays as it was
+-- the ids that a page is for stay the same
 pub still : (page more : Page) (before : Option Page) (other : Id) → more.like ≡ page.like → ((p : Page) → before ≡ Some p → page ≡ p) →
     is_for_others before other ≡ true → is_for_others (Some more) other ≡ true
 still page more None other like found h = absurd (false≢true h)

@@ -43,7 +43,7 @@ module _ (n : ℕ) (records : List (List ℕ)) (limit : ℕ) where
   end-past c (d ∷ t) some le = and_right (nat_le limit (low n records (c ∷ d ∷ t))) (nat_lt (low n records (d ∷ t)) limit)
       (le-ltb (low n records (d ∷ t)) limit le)
 
-  -- ---- none beyond an end: among the children, where what is said of theirs is known
+  -- ---- none beyond an end: among the children, given what holds for each of them
   beyond-step : (k : ℕ) (t : List ℕ) → is_suffix n t ≡ true → limit ≤ low n records t → (s : List ℕ) →
       ((c : ℕ) → is_suffix n (c ∷ t) ≡ true → limit ≤ low n records (c ∷ t) → Member s (suffixes_ending n k (c ∷ t)) → is_end (low n records) limit s ≡ false) →
       Member s (flat_map (λ c. if is_in t c then [] else suffixes_ending n k (c ∷ t)) (candidates n)) → is_end (low n records) limit s ≡ false

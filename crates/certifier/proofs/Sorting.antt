@@ -183,7 +183,7 @@ module _ {K X : Type 0} {R : K → K → Ordering} (o : IsTotalOrder R) where
           go true = refl
           go false = e
 
-    -- ---- put in turn, each where it belongs, or sorted and the last of each key kept
+    -- ---- put in one by one, each in its place, or sorted with only the last of each key kept
     at_key : (f g : K → Option X) (es : List (K × X)) (q : K) → f q ≡ g q → update_all (eq_by_cmp R) f es q ≡ update_all (eq_by_cmp R) g es q
     at_key f g [] q e = e
     at_key f g (p ∷ es) q e =

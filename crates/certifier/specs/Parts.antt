@@ -99,7 +99,7 @@ module _ (n : ℕ) (records : List (List ℕ)) (task : Task) where
     pub end : MatchOption part.end ⊤ (IsEndOf own)
     pub claims : part.over ≡ None → AreClaims own part.claims
 
-  -- the same of a part, if there is one; if there is none, it is nobody's
+  -- the same for a part, if there is one; if there is none, it is for no candidates
   abbrev pub IsPartSoFar : (ℕ → Bool) → Option Part → Type 0
   IsPartSoFar own None = (c : ℕ) → own c ≡ false
   IsPartSoFar own (Some part) = IsPart own part

@@ -130,7 +130,7 @@ front-more field b (first ∷ fields) = ap (λ f. f ∷ fields) (append_assoc fi
 abbrev read_line : Fields → List ℕ → Option Read
 read_line fields text = Some (fields, state_behind text, behind_line text)
 
--- what is read of a line, from within the field at hand
+-- what is read of a line, from within the current field
 reads : (fields : Fields) (field text : List ℕ) → is_plain_line text ≡ true →
     next_record default_config st.InField fields field text ≡ read_line (fields ++ with_front field (fields_in text)) text
 unfolding next_record state_behind

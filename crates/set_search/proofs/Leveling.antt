@@ -83,7 +83,7 @@ module _ (n winner : ℕ) (records : List (List ℕ)) where
     go ([], e) = cc
     go (x ∷ b, e) = cc
 
-  -- the waiting sets alone, at the start
+  -- only the waiting sets, at the start
   pub starts : (closed : ℕ) (waiting : List Waiting) → ((c : ℕ) → has closed c ≡ (c == winner)) → AreAdded n records 0 0 closed [] waiting → S 0 [] waiting
   starts closed waiting only-winner h = record {
     sound = λ s m. absurd (member_nil m);
@@ -250,7 +250,7 @@ module _ (n winner : ℕ) (records : List (List ℕ)) where
       let most = suffix-short n t w.is.proper in
       elim (cases_lt (length t) n) [ inl lt ↦ lt | inr ge ↦ absurd (ne (omega (arith, long, most, ge))) ]
 
-  -- how the suffix of the set that is taken comes to it
+  -- how the suffix of the set that is taken reaches it
   pub taken : (level : ℕ) (seen : List ℕ) (x : Waiting) (waiting : List Waiting) → S level seen (x ∷ waiting) → x.margin ≤ level →
       (t : List ℕ) × Comes n winner records level x.set t
   taken level seen x waiting s le =

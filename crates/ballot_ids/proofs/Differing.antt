@@ -1,4 +1,4 @@
--- Lists of ids none of which stands twice.
+-- Lists of ids in which none occurs twice.
 use Rattle.std.proofs.Common.{inl, inr, ◌≡◌, ◌+◌, ℕ, zero, suc, Bool, true, false, not, ◌||◌, List, [], ◌∷◌, ◌++◌, Some, refl, sym, ap, ◌∙◌, arith}
 use Rattle.std.specs.Prelude.{option_map, position}
 use Rattle.std.specs.Cmp.Lexicographic.{bytes_decides}
@@ -49,7 +49,7 @@ repeated before id rest h =
       | inr f ↦ f
     ]
 
--- ---- the place of an id, where none stands twice
+-- ---- the place of an id, if none occurs twice
 
 lacking : (ids : List Id) (a : Id) (i : ℕ) (x : Id) → is_among ids a ≡ false → slice_get ids i ≡ Some x → is_same x a ≡ false
 lacking [] a i x h g = absurd cc

@@ -18,7 +18,7 @@ hit x b = cond (eqb x b) 255 0
 abbrev other : ℕ → ℕ
 other x = bit_or (bit_or (far x) (hit x 34)) (hit x 44)
 
--- it is marked just where no name has the byte
+-- it is marked exactly if no name has the byte
 marked : agree_below (λ x. top 7 (other x)) (λ x. not (is_name_byte x)) 256 ≡ true
 marked = refl
 

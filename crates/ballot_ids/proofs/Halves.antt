@@ -1,4 +1,4 @@
--- Lists that are told apart by their first elements and their last, which together are all.
+-- Lists that are distinguished by their first and last elements, which together are all elements.
 use Rattle.std.proofs.Common.{◌≡◌, ◌∙◌, ◌≤◌, ◌+◌, ◌-◌, ◌++◌, ◌==◌, ◌∷◌, [], ℕ, zero, suc, Bool, true, List, length, take, drop, refl, sym, ap, ap₂, arith, eq-eqb, eqb-true}
 use Rattle.std.specs.Cmp.{both_ways}
 use Rattle.std.specs.Cmp.Lexicographic.{bytes_decides}
@@ -15,7 +15,7 @@ last w xs = take w (drop (length xs - w) xs)
 last-drop : (w : ℕ) (xs : List ℕ) → w ≤ length xs → last w xs ≡ drop (length xs - w) xs
 last-drop w xs fewest = take_all w (drop (length xs - w) xs) (omega (arith, length-drop (length xs - w) xs, fewest))
 
--- what stands behind the first w elements is among the last w
+-- what comes after the first w elements is among the last w
 behind-first : (w : ℕ) (xs : List ℕ) → w ≤ length xs → length xs ≤ w + w → drop w xs ≡ drop (w + w - length xs) (last w xs)
 behind-first w xs fewest most =
     let at : length xs - w + (w + w - length xs) ≡ w = omega (arith, fewest, most) in
@@ -28,7 +28,7 @@ same-halves w a b long fewest most first behind =
     ∙ sym (behind-first w b (omega (arith, long, fewest)) (omega (arith, long, most))))
     ∙ take-append-drop w b
 
--- ids whose first elements are the same, where two numbers are the same just where their last elements are
+-- ids whose first elements are the same, given that two numbers are the same exactly if the ids' last elements are
 pub same-by-last : (w : ℕ) (a b : Id) (x y : ℕ) → length a ≡ length b → w ≤ length a → length a ≤ w + w → take w a ≡ take w b →
     (x ≡ y → last w a ≡ last w b) → (last w a ≡ last w b → x ≡ y) → (x == y) ≡ is_same a b
 same-by-last w a b x y long fewest most first tells told =
@@ -43,7 +43,7 @@ drop-passes test zero xs h = h
 drop-passes test (suc k) [] h = refl
 drop-passes test (suc k) (x ∷ xs) h = drop-passes test k xs (and_parts (test x) (list_all test xs) h).1
 
--- where the first elements pass, all do just where the last do
+-- if the first elements pass, all do exactly if the last do
 pub all-by-last : (test : ℕ → Bool) (w : ℕ) (xs : List ℕ) → w ≤ length xs → length xs ≤ w + w → list_all test (take w xs) ≡ true →
     list_all test (last w xs) ≡ list_all test xs
 all-by-last test w xs fewest most first =

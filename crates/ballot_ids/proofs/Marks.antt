@@ -17,7 +17,7 @@ use Rattle.ballot_ids.proofs.Words.{nothing-set}
 
 -- ---- numbers of bytes
 
--- how much may stand in front of so many bytes, that the number doesn't begin anew
+-- the bound for a number in front of this many bytes, such that the result doesn't wrap
 room : ℕ → ℕ
 room zero = 2 ^ 64
 room (suc k) = room k / 256
@@ -35,7 +35,7 @@ grows : (k n b : ℕ) → n < room (suc k) → b < 256 → n * 256 + b < room k
 unfolding room
 grows k n b less small = omega (arith, less, small)
 
--- a byte more
+-- one more byte
 put : (k n b : ℕ) → n < room (suc k) → b < 256 → (n * 2 ^ 8 % 2 ^ 64 + b) % 2 ^ 64 ≡ n * 256 + b
 put k n b less small =
     let more = grows k n b less small in
@@ -51,7 +51,7 @@ record Alike (n m : ℕ) (xs ys : List ℕ) : Type 0 where
   before : n ≡ m
   bytes : xs ≡ ys
 
--- a number tells its bytes, of which there are so many
+-- a number determines its bytes, if their count is known
 alike : (k n m : ℕ) (xs ys : List ℕ) → length xs ≡ k → length ys ≡ k → n < room k → m < room k
     → list_all (λ x. nat_lt x 256) xs ≡ true → list_all (λ x. nat_lt x 256) ys ≡ true
     → number_behind n xs ≡ number_behind m ys → Alike n m xs ys
@@ -72,11 +72,11 @@ alike (suc k) n m (x ∷ xs) (y ∷ ys) long same less few xs-bytes ys-bytes h =
 
 -- ---- numbers of pages
 
--- numbers that begin anew at 2 ^ 64
+-- numbers that wrap at 2 ^ 64
 same-behind : (d i j : ℕ) → i < 2 ^ 64 → j < 2 ^ 64 → (d + i) % 2 ^ 64 ≡ (d + j) % 2 ^ 64 → i ≡ j
 same-behind d i j less few h = omega (arith, less, few, h)
 
--- what is counted is told by the bit and by what is added to the digest
+-- the bit and what is added to the digest determine what is counted
 same-count : (c e : ℕ) → c / 4096 * 16 + c / 16 % 16 ≡ e / 4096 * 16 + e / 16 % 16 → bit_of c ≡ bit_of e → c ≡ e
 same-count c e page bit = omega (arith, page, bit)
 
@@ -123,7 +123,7 @@ same-id a b a-bytes b-bytes long fronts numbers bits =
     let last = alike k 0 0 a-rest b-rest refl b-long few few (drop-bytes (length a - 5) a a-bytes) (drop-bytes (length b - 5) b b-bytes) counts in
     sym (front-and-last a) ∙ ap₂ (λ xs ys. xs ++ ys) fronts last.bytes ∙ front-and-last b
 
--- ---- one bit more on a page
+-- ---- one more bit on a page
 
 same-parts : (like id other : Id) → is_like (Some like) id ≡ true → is_like (Some like) other ≡ true → (length id ≡ length other) × (front id ≡ front other)
 same-parts like id other own its =
@@ -137,7 +137,7 @@ alike-on : (like : Option Id) (id other : Id) → is_like like id ≡ true → i
 alike-on None id other own its = absurd (false≢true own)
 alike-on (Some like) id other own its = same-parts like id other own its
 
--- of the ids on a page the bit tells which it is
+-- the bit distinguishes the ids on a page
 told : (page : Page) (id other : Id) → AreBytes id → AreBytes other → is_of page id ≡ true → is_of page other ≡ true →
     page_number other ≡ page_number id → (bit_of (counted other) == bit_of (counted id)) ≡ is_same id other
 told page id other id-bytes other-bytes own its numbers =
@@ -172,7 +172,7 @@ one-more page id other bits id-bytes other-bytes own numbers h = elim (cases_Boo
       ∙ ap (λ b. is_same id other || (b && has_bit page.bits (bit_of (counted other)))) (sym not_its)
 ]
 
--- ids with pages of other numbers differ
+-- ids whose pages have other numbers differ
 pub other-page : (id other : Id) → page_number other ≢ page_number id → is_same id other ≡ false
 other-page id other h = elim (cases_Bool (is_same id other)) [
   | inl same ↦ absurd (h (ap page_number (sym ((bytes_decides id other).0 same))))
@@ -208,7 +208,7 @@ are-bytes (b ∷ id) h = and_from (nat_lt b 256) (list_all (λ x. nat_lt x 256) 
 pub lies : (pages : Pages) (number : ℕ) → pages.open ≡ number → page_at pages number ≡ Some pages.page
 lies pages number h = ap (λ b. if b then Some pages.page else get nat_cmp pages.closed number) (eq-eqb number pages.open (sym h))
 
--- what another page lies open changes nothing of the others
+-- a change to the open page changes nothing about the others
 pub beside : (pages : Pages) (page : Page) (n number : ℕ) → pages.open ≡ number → n ≢ number →
     page_at (record { «open» = pages.open; page = page; closed = pages.closed }) n ≡ page_at pages n
 beside pages page n number h away =
@@ -223,7 +223,7 @@ kept-paged old new number other others same = elim (cases_eq (page_number other)
   | inr away ↦ ap (λ p. is_on p other) (others (page_number other) away)
 ]
 
--- that a page is opened marks no id
+-- opening a page marks no id
 pub turned-same : (old new : Pages) (number : ℕ) (id other : Id) → HasTurned old new number id → is_paged new other ≡ is_paged old other
 turned-same old new number id other told =
     kept-paged old new number other told.others
@@ -239,7 +239,7 @@ kept-elsewhere old new number other others same h = elim (cases_eq (page_number 
   | inr away ↦ ap (λ p. is_for_others p other) (others (page_number other) away) ∙ h
 ]
 
--- whom a page is for stays as it was
+-- the ids that a page is for stay the same
 pub still : (page more : Page) (before : Option Page) (other : Id) → more.like ≡ page.like → ((p : Page) → before ≡ Some p → page ≡ p) →
     is_for_others before other ≡ true → is_for_others (Some more) other ≡ true
 still page more None other like found h = absurd (false≢true h)

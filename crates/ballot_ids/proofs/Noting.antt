@@ -39,7 +39,7 @@ not-on (Some page) id h = by (is_of page id) h where
 pub unpaged : (pages : Pages) (id : Id) → is_elsewhere pages id ≡ true → is_paged pages id ≡ false
 unpaged pages id h = not-on (page_at pages (page_number id)) id h
 
--- an id whose page is for ids like it isn't told elsewhere
+-- an id whose page is for ids like it isn't kept elsewhere
 pub here : (met : List Id) (noted : Noted) (after : Pages) (id : Id) → AreNoted met noted
     → ((other : Id) → is_elsewhere noted.pages other ≡ true → is_elsewhere after other ≡ true)
     → is_elsewhere after id ≡ false → is_among noted.elsewhere id ≡ false

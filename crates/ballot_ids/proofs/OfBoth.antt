@@ -15,7 +15,7 @@ use Rattle.ballot_ids.proofs.Words.{bit-within, either-set, other-unset}
 
 -- ---- pages
 
--- ids that are like the one are like the other
+-- ids that are like the first are like the second
 same-like : (a b id : Id) → is_like (Some a) b ≡ true → is_like (Some b) id ≡ is_like (Some a) id
 same-like a b id h =
     let (long, fronts) = and_parts (length a == length b) (is_same (front a) (front b)) h in
@@ -67,7 +67,7 @@ paged-both own its all id apart of =
     let number = page_number id in
     ap (λ p. is_on p id) (of number) ∙ on-both (page_at own number) (page_at its number) id (apart number)
 
--- where all ids stand on pages, those were met that are paged
+-- if all ids are on pages, the ids that have been met are those that are paged
 met-paged : (met : List Id) (noted : Noted) (id : Id) → AreNoted met noted → noted.elsewhere ≡ [] → AreBytes id →
     is_paged noted.pages id ≡ is_among met id
 met-paged met noted id are here bytes =
@@ -86,7 +86,7 @@ joined own its a b all apart of same are-own are-its =
       away = λ id among. absurd (false≢true (sym (ap (λ ids. is_among ids id) here) ∙ among));
     }
 
--- where the pages are apart, no id was met by both
+-- if the pages are apart, no id was met by both
 pub met-by-one : (own its : List Id) (a b : Noted) → ArePagesApart a b → AreNoted own a → AreNoted its b → (id : Id) → AreBytes id →
     is_among own id ≡ true → is_among its id ≡ false
 met-by-one own its a b apart are-own are-its id bytes among =

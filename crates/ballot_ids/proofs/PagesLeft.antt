@@ -1,4 +1,4 @@
--- Another's closed pages, one after the other: those that are left tell as much as all of them.
+-- Another's closed pages, in order: those that are left say as much as all of them.
 use Rattle.std.proofs.Common.{◌≡◌, ◌≢◌, ◌∙◌, ◌∷◌, ℕ, true, false, List, Option, Some, None, refl, sym, ap, inl, inr, ne_eqb}
 use Rattle.std.specs.Prelude.{if◌then◌else◌}
 use Rattle.std.specs.BTreeMap.{get, is_at}
@@ -31,7 +31,7 @@ passed n number page rest away =
     lookup_tail (is_at (nat_cmp n)) (number, page) rest
     (false_from_ne_true (is_eq (nat_cmp n number)) (λ t. away (tells_apart exact_unsigned n number t)))
 
--- no number stands twice
+-- no number occurs twice
 gone : (n number : ℕ) (page : Page) (rest : List (ℕ × Page)) → IsStrictlySortedBy nat_cmp (keys_of ((number, page) ∷ rest)) → n ≡ number
     → page_in rest n ≡ None
 gone n number page rest sorted e =
@@ -109,7 +109,7 @@ one-put old its now after number page left away put others all = record {
   sorted = sorted_tail nat_cmp number (keys_of left) all.sorted;
 }
 
--- the one that doesn't count
+-- the page that doesn't count
 pub one-skipped : (old its now : Pages) (number : ℕ) (page : Page) (left : List (ℕ × Page)) → number ≡ its.open
     → LeftOut old its now ((number, page) ∷ left) → LeftOut old its now left
 one-skipped old its now number page left is all = record {
@@ -119,7 +119,7 @@ one-skipped old its now number page left is all = record {
   sorted = sorted_tail nat_cmp number (keys_of left) all.sorted;
 }
 
--- behind the closed ones the open one
+-- the open page, after the closed ones
 pub open-put : (old its now all : Pages) → ((n : ℕ) → n ≢ its.open → page_at now n ≡ of_both (page_at old n) (page_at its n))
     → page_at now its.open ≡ page_at old its.open → page_at all its.open ≡ of_both (page_at now its.open) (Some its.page)
     → ((n : ℕ) → n ≢ its.open → page_at all n ≡ page_at now n) → AreOfBoth old its all

@@ -46,7 +46,7 @@ module _ {V : Type 0} (items : V → Id) where
       one-put (slice_cmp nat_cmp (items key) (items first)) key first keys (insert_key (λ a b. slice_cmp nat_cmp (items a) (items b)) keys key) id refl
       (put-among keys key id)
 
-  -- there are none where the set has no keys
+  -- there are none if the set has no keys
   pub none-in : (keys : List V) (ids : List Id) → map items keys ≡ ids → (length keys ≡ 0) ↔ (ids ≡ [])
   none-in keys ids e = (
     λ none. nil_from_length ids (sym (ap length e) ∙ length-map keys items ∙ none),

@@ -32,7 +32,7 @@ nothing-set bit = ap (λ word. set_in word (bit % 64)) (no-word (bit / 64)) ∙ 
 
 -- ---- one more
 
--- two bits of one word are the same just where they have the same place there
+-- two bits of one word are the same exactly if they have the same place there
 same-place : (bit other : ℕ) → other / 64 ≡ bit / 64 → (other % 64 == bit % 64) ≡ (other == bit)
 same-place bit other e =
     both_ways (other % 64 == bit % 64) (other == bit)
@@ -87,7 +87,7 @@ either-set own its bit h =
     ap (λ w. set_in w (bit % 64)) (each-word bit_or own its (bit / 64) (within-four bit h))
     ∙ either-in (slice_index own (bit / 64)) (slice_index its (bit / 64)) (bit % 64)
 
--- a bit that is set in the one isn't in the other
+-- a bit that is set in the first isn't in the second
 other-in : (a b bit : ℕ) → bit_and a b ≡ 0 → set_in a bit ≡ true → set_in b bit ≡ false
 other-in a b bit apart own =
     let none : bit_at (bit_and a b) bit ≡ 0 = ap (λ n. bit_at n bit) apart ∙ bit_at-zero bit in

@@ -1,4 +1,4 @@
--- The pages on which ids that were met are marked.
+-- The pages on which the ids that have been met are marked.
 use Rattle.std.specs.Prelude.{◌≡◌, ◌≢◌, ◌-◌, ◌+◌, ◌*◌, ◌/◌, ◌%◌, ◌^◌, ◌&&◌, ℕ, Bool, false, not, nat_lt, List, [], ◌∷◌, length, take, drop, slice_index, Option, None, Some, if◌then◌else◌, ◌==◌, IsTrue}
 use Rattle.std.specs.List.{list_all}
 use Rattle.std.specs.Hash.FoldHasher.{initial, write, finish}
@@ -16,15 +16,15 @@ has_bit words bit = (slice_index words (bit / 64) / 2 ^ (bit % 64)) % 2 == 1
 abbrev pub no_bits : List ℕ
 no_bits = 0 ∷ 0 ∷ 0 ∷ 0 ∷ []
 
--- The last bytes of an id are read as a number. Four bits of the last byte and four of the one before it are the id's bit on a page; the
--- rest is added to the digest of the other bytes and gives the number of the page. So ids that were counted up in decimal digits, as
--- those of ballots are, are up to a hundred on a page, and the next page is found next to the last. Ids with other numbers of pages or
--- bits differ. Two that differ may share both, and then they differ in length or in their first bytes, by which a page knows its ids.
+-- The last bytes of an id are read as a number. Four bits of the last byte and four of the one before it are the id's bit on a page. The
+-- rest is added to the digest of the other bytes and gives the number of the page. So if ids count up in decimal digits, as those of
+-- ballots do, up to a hundred are on a page, and the next page is found next to the last one. Ids with different page numbers or bits
+-- differ. Two ids that differ may share both; then they differ in length or in their first bytes, by which a page knows its ids.
 
 abbrev pub digest : Id → ℕ
 digest id = finish (write initial id)
 
--- the number that bytes are, the first of them most significant, after one that is there; it wraps at 2 ^ 64
+-- the number that bytes are, the first of them most significant, after a number that is already there; it wraps at 2 ^ 64
 abbrev pub number_behind : ℕ → List ℕ → ℕ
 number_behind n [] = n
 number_behind n (b ∷ bytes) = number_behind ((n * 2 ^ 8 % 2 ^ 64 + b) % 2 ^ 64) bytes
@@ -48,9 +48,9 @@ bit_of count = count % 16 + count / 256 % 16 * 16
 abbrev pub AreBytes : Id → Type 0
 AreBytes id = IsTrue (list_all (λ b. nat_lt b 256) id)
 
--- ---- what stands on a page
+-- ---- what is on a page
 
--- an id has as many bytes as another one, and the same front
+-- an id has the same number of bytes as another one, and the same front
 abbrev pub is_like : Option Id → Id → Bool
 is_like None id = false
 is_like (Some like) id = (length like == length id) && is_same (front like) (front id)
@@ -77,11 +77,11 @@ page_at pages number =
 abbrev pub is_paged : Pages → Id → Bool
 is_paged pages id = is_on (page_at pages (page_number id)) id
 
--- its page is there, and is for other ids
+-- the id's page is there, and is for other ids
 abbrev pub is_elsewhere : Pages → Id → Bool
 is_elsewhere pages id = is_for_others (page_at pages (page_number id)) id
 
--- the page with a number is open now, as it was, or a new one for ids like this one if there was none; the others are as they were
+-- the page with this number is now open, as it was, or as a new one for ids like this one if there was none; the others are as they were
 pub record HasTurned (old new : Pages) (number : ℕ) (id : Id) : Type 0 where
   pub lies : new.open ≡ number
   pub others : (n : ℕ) → n ≢ number → page_at new n ≡ page_at old n

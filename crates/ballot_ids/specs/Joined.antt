@@ -1,4 +1,4 @@
--- Ids that were met side by side, and are put together by their pages.
+-- Ids that were met side by side, and are joined by their pages.
 use Rattle.std.specs.Prelude.{◌≡◌, ◌&&◌, ◌==◌, ℕ, Bool, true, false, List, [], ◌∷◌, map, slice_index, Option, None, Some, is_some, IsTrue, bit_and, bit_or, if◌then◌else◌}
 use Rattle.std.specs.List.{list_all}
 use Rattle.irv_base.specs.Names.{Id}
@@ -20,7 +20,7 @@ share_none own its = list_all (λ word. word == 0) (of_each bit_and own its)
 
 -- ---- two pages with one number
 
--- both keep an id, and these are alike
+-- both pages keep an id, and these ids are alike
 abbrev pub are_alike : Option Id → Option Id → Bool
 are_alike own None = false
 are_alike own (Some like) = is_like own like
@@ -32,7 +32,7 @@ are_pages_apart own its =
     then are_alike own.like its.like && share_none own.bits its.bits
     else true
 
--- the bits of both, if both are for ids alike
+-- the bits of both pages, if both are for ids alike
 abbrev pub page_of_both : Page → Page → Page
 page_of_both own its =
     if is_some own.like && is_some its.like
@@ -53,16 +53,16 @@ of_both (Some own) (Some its) = Some (page_of_both own its)
 
 -- ---- all pages
 
--- those with one number are apart, whichever it is
+-- pages with the same number are apart, whatever the number
 abbrev pub AreAllApart : Pages → Pages → Type 0
 AreAllApart own its = (number : ℕ) → IsTrue (are_apart (page_at own number) (page_at its number))
 
--- those of `all` are for the ids of both
+-- the pages of `all` are for the ids of both
 abbrev pub AreOfBoth : Pages → Pages → Pages → Type 0
 AreOfBoth own its all =
     (number : ℕ) → page_at all number ≡ of_both (page_at own number) (page_at its number)
 
--- all ids are on pages, and these are apart
+-- all ids are on pages, and these pages are apart
 pub record ArePagesApart (own its : Noted) : Type 0 where
   pub apart : AreAllApart own.pages its.pages
   pub own_here : own.elsewhere ≡ []

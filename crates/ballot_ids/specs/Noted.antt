@@ -1,4 +1,4 @@
--- How it is known which ids were met: by pages, or by a list of their own if their page is for others.
+-- How it is recorded which ids have been met: by pages, or by a list of ids if their page is for others.
 use Rattle.std.specs.Prelude.{◌≡◌, ◌||◌, true, Bool, List}
 use Rattle.irv_base.specs.Names.{Id, is_among}
 use Rattle.ballot_ids.specs.Ids.{AreBytes, is_elsewhere, is_paged}

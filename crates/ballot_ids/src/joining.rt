@@ -1,4 +1,4 @@
-// Pages of ids that were met side by side: whether they are apart, and how they are put together.
+// Pages of ids that were met side by side: whether they are apart, and how they are joined.
 ghost use Rattle.std.specs.Prelude.{◌≡◌, ◌≢◌, ◌↔◌, ℕ, Some, OnOk, IsTrue};
 ghost use Rattle.ballot_ids.specs.Ids.{page_at};
 ghost use Rattle.ballot_ids.specs.Joined.{are_apart, of_both, AreAllApart, AreOfBoth};
@@ -8,7 +8,7 @@ use crate::pages::Pages;
 use irv_base::Memory;
 
 impl Pages {
-    // Whether another's page with a number is apart from that of these.
+    // Whether another's page with this number is apart from the page of these.
     fn is_apart(&self, number: u64, page: &Page) -> bool
         ensures { result ≡ are_apart (page_at self.now number) (Some page.now) }
     {
@@ -34,14 +34,14 @@ impl Pages {
         true
     }
 
-    /// Whether those with one number are apart, whichever it is: so no id is on both.
+    /// Whether pages with the same number are apart, whatever the number. So no id is on both.
     pub fn are_apart(&self, other: &Pages) -> bool
         ensures { IsTrue result ↔ AreAllApart self.now other.now }
     {
         self.is_apart(other.open, &other.page) && self.are_closed_apart(other)
     }
 
-    // Puts the ids of another's page with a number among these.
+    // Puts the ids of another's page with this number among these.
     fn put(&mut self, number: u64, page: &Page) -> Result<(), Memory>
         ensures put { OnOk result (page_at self.new number
             ≡ of_both (page_at self.old number) (Some page.now)) }

@@ -1,4 +1,4 @@
-//! Ids: which ones were met, whether two are the same, and whether a text is one.
+//! Ids: which ones have been met, whether two are the same, and whether a text is one.
 #![tactic(auto)]
 
 mod joining;

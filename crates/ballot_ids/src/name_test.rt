@@ -1,4 +1,4 @@
-// Whether bytes are a name. Those of most ids are looked at side by side.
+// Whether bytes are a name. The bytes of most ids are examined side by side.
 ghost use Rattle.std.specs.Prelude.{◌≡◌, ◌<◌, ◌+◌, ◌≤◌, length, take, drop};
 ghost use Rattle.std.specs.List.{list_all};
 ghost use Rattle.irv_base.specs.Names.{has_name_length, is_name, is_name_byte, touches_space};
@@ -12,7 +12,7 @@ fn is_name_byte(b: u8) -> bool
     (b' '..=b'~').contains(&b) && b != b'"' && b != b','
 }
 
-// Whether a name may have the eight bytes from a place on. Those below a space are far above it once it is taken off.
+// Whether a name may have the eight bytes from a place on. Bytes below a space are far above it once the space is subtracted.
 fn are_name_bytes_8(bytes: &[u8], at: usize) -> bool
     requires { at + 8 ≤ length bytes.now }
     ensures { result ≡ list_all is_name_byte (take 8 (drop at bytes.now)) }
@@ -25,7 +25,7 @@ fn are_name_bytes_8(bytes: &[u8], at: usize) -> bool
     others.to_bitmask() == 0
 }
 
-// Whether a name may have these 8 to 16 bytes: it may have the first eight, and the last.
+// Whether a name may have these 8 to 16 bytes: whether it may have the first eight and the last eight.
 fn are_name_bytes_by_8(bytes: &[u8]) -> bool
     requires fewest { 8 ≤ length bytes.now }
     requires most { length bytes.now ≤ 16 }
@@ -57,7 +57,7 @@ fn touches_space(bytes: &[u8]) -> bool
     bytes[0] == b' ' || bytes[bytes.len() - 1] == b' '
 }
 
-/// Whether these bytes are a name. None is made.
+/// Whether these bytes are a name. No name is made.
 pub fn is_name(bytes: &[u8]) -> bool
     ensures { result ≡ is_name bytes.now }
 {

@@ -9,8 +9,8 @@ use crate::sorted::Sorted;
 use irv_base::Memory;
 use std::alloc::Global;
 
-/// Ids that were met, each once. They are distinguished by bits on pages, each of which keeps one of its ids. An id whose page is for others
-/// is kept whole, in order, so that no choice of ids is slow to find.
+/// The ids that have been met, each once. They are distinguished by bits on pages, each of which keeps one of its ids. An id whose page is
+/// for others is kept whole, in order, so that no choice of ids is slow to find.
 #[derive(Drop)]
 pub struct Noted {
     /// The pages on which ids are marked.
@@ -32,7 +32,7 @@ impl Noted {
         }
     }
 
-    /// Notes the id unless it was there, and answers whether it is new.
+    /// Notes the id unless it was already there, and returns whether it is new.
     pub fn note(&mut self, id: &[u8]) -> Result<bool, Memory>
         ensures new { IfOk result (λ new. (met : List Id) → AreNoted met self.old
             → new ≡ not (is_among met id.now)) }
@@ -49,7 +49,7 @@ impl Noted {
         }
     }
 
-    /// Whether the pages show that no id was met by both, so that they can be put together. They don't if an id is in the list, or if a
+    /// Whether the pages show that no id was met by both, so that they can be joined. They don't show it if an id is in the list, or if a
     /// page with the same number is for other ids.
     pub fn are_apart(&self, other: &Noted) -> bool
         ensures { IsTrue result ↔ ArePagesApart self.now other.now }

@@ -1,4 +1,4 @@
-// A page: the bits of ids that are alike but for the bytes that are counted.
+// A page: the bits of ids that are alike except for the bytes that are counted.
 ghost use Rattle.std.specs.Prelude.{◌≡◌, ◌<◌, ◌^◌, ◌||◌, ◌==◌, ℕ, IsTrue, bit_or};
 ghost use Rattle.irv_base.specs.Names.{is_name};
 ghost use Rattle.ballot_ids.specs.Ids.{front, has_bit, is_of, no_bits};
@@ -9,17 +9,17 @@ use crate::same::is_same;
 use irv_base::Name;
 use std::marker::Model;
 
-// How many bits a word has, and how many words a page: so it has a bit for each number of one byte.
+// The number of bits in a word, and the number of words on a page. So a page has a bit for each number of one byte.
 const WORD_BITS: u8 = 64;
 
 const WORDS: usize = 4;
 
-/// This many bytes at the end of an id are counted, and give its bit. Those before them are its page's.
+/// This many bytes at the end of an id are counted, and give its bit. The bytes before them are its page's.
 pub const COUNTED_BYTES: usize = 5;
 
 /// The bits that are set on a page.
 ///
-/// To a contract it is the words of these bits.
+/// To a contract, it is the words of these bits.
 #[derive(Clone, Copy)]
 pub struct Bits([u64; WORDS]);
 
@@ -33,7 +33,7 @@ impl Model for Bits {
     ghost inverse = { λ words. record { 0 = words } };
 }
 
-// The word of which this bit alone is set.
+// The word in which only this bit is set.
 fn only(bit: u8) -> u64
     requires { bit < WORD_BITS }
     ensures { result ≡ 2 ^ bit }
@@ -42,7 +42,7 @@ fn only(bit: u8) -> u64
 }
 
 impl Bits {
-    /// Bits of which none is set.
+    /// The bits of a page on which no bit is set.
     pub fn none() -> Bits
         ensures { result ≡ no_bits }
     {
@@ -64,7 +64,7 @@ impl Bits {
         self.0[usize::from(bit / WORD_BITS)] |= only(bit % WORD_BITS);
     }
 
-    /// Whether no bit is set among both.
+    /// Whether no bit is set on both.
     pub fn are_apart(&self, other: &Bits) -> bool
         ensures { result ≡ share_none self.now other.now }
     {
@@ -74,7 +74,7 @@ impl Bits {
             && self.0[3] & other.0[3] == 0
     }
 
-    /// The bits that are set among these or those.
+    /// The bits that are set on either.
     pub fn with_all(&self, other: &Bits) -> Bits
         ensures { result ≡ of_each bit_or self.now other.now }
     {
@@ -94,12 +94,12 @@ pub fn front(id: &[u8]) -> &[u8]
     &id[..id.len().saturating_sub(COUNTED_BYTES)]
 }
 
-/// What the ids on a page have alike, and which of them were met.
+/// What the ids on a page have in common, and which of them have been met.
 #[derive(Clone, Copy)]
 pub struct Page {
-    /// One of these ids; none if the page is for none.
+    /// One of these ids, or none if the page is for no ids.
     pub like: Option<Name>,
-    /// The bits of those that were met.
+    /// The bits of the ids that have been met.
     pub bits: Bits,
 }
 
@@ -115,7 +115,7 @@ impl Page {
         }
     }
 
-    /// A page for ids like this one, none of which was met.
+    /// A page for ids like this one, none of which has been met.
     pub fn of(id: &[u8]) -> Page
         ensures none { result.bits ≡ no_bits }
         ensures own { IsTrue (is_name id.now) → IsTrue (is_of result id.now) }
@@ -126,7 +126,8 @@ impl Page {
         }
     }
 
-    /// Whether the page is for ids like this one: with as many bytes, and the same in front of those that are counted.
+    /// Whether the page is for ids like this one: those with the same number of bytes, and the same bytes in front of those that are
+    /// counted.
     #[inline(always)]
     pub fn is_of(&self, id: &[u8]) -> bool
         ensures { result ≡ is_of self.now id.now }
@@ -140,7 +141,7 @@ impl Page {
         }
     }
 
-    /// Whether the two can be put together and no id is on both: one is for no ids, or both are for ids alike and no bit is set on both.
+    /// Whether the two can be joined and no id is on both: one is for no ids, or both are for ids alike and no bit is set on both.
     pub fn is_apart(&self, other: &Page) -> bool
         ensures { result ≡ are_pages_apart self.now other.now }
     {
@@ -153,7 +154,7 @@ impl Page {
         }
     }
 
-    /// The page for the ids of both, if they can be put together.
+    /// The page for the ids of both, if they can be joined.
     pub fn with_all(&self, other: &Page) -> Page
         ensures { result ≡ page_of_both self.now other.now }
     {

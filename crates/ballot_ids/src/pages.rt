@@ -1,6 +1,6 @@
-// Ids on pages: each differs from all others there, which needs no comparison.
+// Ids on pages. Each differs from all others there, which requires no comparison.
 //
-// A page has 256 bits. With 64 it would take 24 bytes less, and hold up to forty ids that were counted up in place of a hundred.
+// A page has 256 bits. With 64 bits it would take 24 bytes less, and hold up to forty ids that count up instead of a hundred.
 ghost use Rattle.std.specs.Prelude.{◌≡◌, ◌≢◌, ◌≤◌, ◌||◌, ℕ, IfOk, OnOk, OnErr, true, false, length};
 ghost use Rattle.irv_base.specs.Names.{Id, is_same};
 ghost use Rattle.ballot_ids.specs.Ids.{AreBytes, HasTurned, bit_of, counted, digest, is_elsewhere, is_paged, number_behind, page_at, page_number};
@@ -13,30 +13,31 @@ use std::alloc::Global;
 use std::collections::BTreeMap;
 use std::hash::{FoldHasher, Hasher};
 
-/// The pages of ids that were met. One page is open: ids that were counted up are on the page of the one before. The others are in order,
+/// The pages of ids that have been met. One page is open: if ids count up, each is on the page of the one before. The others are in order,
 /// so no choice of ids makes them slow to find.
 #[derive(Drop)]
 pub struct Pages {
-    /// The number of the page that lies open.
+    /// The number of the open page.
     pub open: u64,
     /// That page.
     pub page: Page,
-    /// The pages that were closed. What is here for the open one doesn't count.
+    /// The pages that were closed. An entry for the open page doesn't count.
     pub closed: BTreeMap<u64, Page>,
 }
 
-/// What comes of a mark for an id.
+/// The result of marking an id.
 #[derive(Clone, Copy, PartialEq, Eq)]
 pub enum Mark {
-    /// It had none, and has one now.
+    /// The id wasn't marked, and is marked now.
     Fresh,
-    /// It had one.
+    /// The id was already marked.
     Met,
-    /// The page with its number is for other ids, so it has none. Which ids share a number can be foreseen, so a file may have many.
+    /// The page with the id's number is for other ids, so the id isn't marked. It is predictable which ids share a number, so a file may
+    /// have many ids like this.
     Elsewhere,
 }
 
-/// A number that is computed from bytes. Other bytes may have the same one.
+/// A number that is computed from bytes. Other bytes may give the same number.
 pub fn digest(bytes: &[u8]) -> u64
     ensures { result ≡ digest bytes.now }
 {
@@ -56,7 +57,7 @@ fn number_of(bytes: &[u8]) -> u64
     n
 }
 
-// The number that the last `COUNTED_BYTES` bytes are. The loop has a known end, so it is none once it is built.
+// The number that the last `COUNTED_BYTES` bytes are. The loop has a known end, so no loop remains once it is built.
 fn number_of_last(id: &[u8]) -> u64
     requires { COUNTED_BYTES ≤ length id.now }
     ensures { result ≡ counted id.now }
@@ -81,7 +82,7 @@ fn counted(id: &[u8]) -> u64
     number_of_last(id)
 }
 
-// The number of the page of an id whose last bytes count so much.
+// The number of the page of an id whose last bytes count this much.
 fn page_number(id: &[u8], count: u64) -> u64
     requires { count ≡ counted id.now }
     ensures { result ≡ page_number id.now }
@@ -89,7 +90,7 @@ fn page_number(id: &[u8], count: u64) -> u64
     digest(front(id)).wrapping_add(count / 4096 * 16 + count / 16 % 16)
 }
 
-// The bit of an id whose last bytes count so much.
+// The bit of an id whose last bytes count this much.
 fn bit(count: u64) -> u8
     ensures { result ≡ bit_of count }
 {
@@ -97,7 +98,7 @@ fn bit(count: u64) -> u8
 }
 
 impl Pages {
-    /// No pages but an empty one.
+    /// Only an empty page.
     pub fn new(alloc: Global) -> Pages
         ensures none { (id : Id) → is_paged result id ≡ false }
     {
@@ -108,8 +109,7 @@ impl Pages {
         }
     }
 
-    // Opens the page with a number, or a new one for ids like this one if there is none. Ids that were counted up are mostly on the open
-    // page.
+    // Opens the page with this number, or a new one for ids like this one if there is none. Ids that count up are mostly on the open page.
     fn turn_to(&mut self, number: u64, id: &[u8]) -> Result<(), Memory>
         ensures turned { OnOk result (HasTurned self.old self.new number id.now) }
         ensures same { OnErr result ((n : ℕ) → page_at self.new n ≡ page_at self.old n) }
@@ -120,7 +120,7 @@ impl Pages {
         self.close_for(number, id)
     }
 
-    // The same if another page is open. Few of those ids turn a page, so this isn't inlined.
+    // Does the same if another page is open. Few ids that count up turn a page, so this isn't inlined.
     #[inline(never)]
     fn close_for(&mut self, number: u64, id: &[u8]) -> Result<(), Memory>
         requires away { number ≢ self.old.open }

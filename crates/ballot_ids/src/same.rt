@@ -29,7 +29,7 @@ fn number_of_8(bytes: &[u8], at: usize) -> u64
     ])
 }
 
-// Whether two ids of the same 1 to 3 bytes are the same: their first is, the one in the middle, and their last.
+// Whether two ids of the same length, 1 to 3 bytes, are the same: whether their first, middle and last bytes are.
 fn is_same_by_1(a: &[u8], b: &[u8]) -> bool
     requires long { length a.now ≡ length b.now }
     requires fewest { 1 ≤ length a.now }
@@ -41,7 +41,7 @@ fn is_same_by_1(a: &[u8], b: &[u8]) -> bool
     a[0] == b[0] && a[middle] == b[middle] && a[last] == b[last]
 }
 
-// Whether two ids of the same 4 to 8 bytes are the same: their first four are, and their last.
+// Whether two ids of the same length, 4 to 8 bytes, are the same: whether their first four bytes and their last four are.
 fn is_same_by_4(a: &[u8], b: &[u8]) -> bool
     requires long { length a.now ≡ length b.now }
     requires fewest { 4 ≤ length a.now }
@@ -52,7 +52,7 @@ fn is_same_by_4(a: &[u8], b: &[u8]) -> bool
     number_of_4(a, 0) == number_of_4(b, 0) && number_of_4(a, last) == number_of_4(b, last)
 }
 
-// Whether two ids of the same 8 to 16 bytes are the same: their first eight are, and their last.
+// Whether two ids of the same length, 8 to 16 bytes, are the same: whether their first eight bytes and their last eight are.
 fn is_same_by_8(a: &[u8], b: &[u8]) -> bool
     requires long { length a.now ≡ length b.now }
     requires fewest { 8 ≤ length a.now }

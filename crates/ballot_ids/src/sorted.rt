@@ -7,9 +7,9 @@ use std::alloc::Global;
 use std::collections::BTreeSet;
 use std::marker::Model;
 
-/// Ids in order, each once. The time to find one doesn't hang on which they are.
+/// Ids in order, each once. The time to find one doesn't depend on which ids they are.
 ///
-/// To a contract it is the list of the ids.
+/// To a contract, it is the list of the ids.
 #[derive(Drop)]
 pub struct Sorted {
     ids: BTreeSet<Vec<u8>>,
@@ -34,21 +34,21 @@ impl Sorted {
         }
     }
 
-    /// Whether there are none.
+    /// Whether there are no ids.
     pub fn is_empty(&self) -> bool
         ensures { IsTrue result ↔ (self.now ≡ []) }
     {
         self.ids.is_empty()
     }
 
-    /// Whether the id is one of them.
+    /// Whether the id is among these.
     pub fn has(&self, id: &[u8]) -> bool
         ensures { result ≡ is_among self.now id.now }
     {
         self.ids.contains(id)
     }
 
-    /// Puts an id among them, and answers whether it wasn't there.
+    /// Puts an id among these, and returns whether it is new.
     pub fn put(&mut self, alloc: Global, id: &[u8]) -> Result<bool, Memory>
         ensures new { IfOk result (λ new. new ≡ not (is_among self.old id.now)) }
         ensures put { OnOk result ((other : Id)

@@ -1,4 +1,4 @@
--- What is gathered of ends: their refuters, each once, in the fixed order, with their margins.
+-- What is gathered from ends: their refuters, each once, in the fixed order, with their margins.
 use Rattle.std.proofs.Common.{◌≡◌, ℕ, ◌⊎◌, inl, inr, List, [], ◌∷◌, map, fold, Option, Some, None, refl, sym, ap, subst, ◌∙◌}
 use Rattle.std.proofs.lemmas.Bool.{cases_Bool}
 use Rattle.std.specs.declared.cmp.Ordering.{Ordering}
@@ -70,7 +70,7 @@ insert-sorted (x ∷ xs) k (more first r) = go (order k x) refl (insert-sorted x
       let l : Before x k = order-after k x e in
       more {x = x} {xs = insert_key order xs k} (λ y m. elim (from_insert xs k y m) [ inl s ↦ subst (Before x) s l | inr n ↦ first y n ]) ih
 
--- one that is there already
+-- one that is already there
 insert-stays : (ks : List Assertion) (k : Assertion) → Sorted Before ks → Member k ks → insert_key order ks k ≡ ks
 insert-stays [] k none m = absurd (member_nil m)
 insert-stays (x ∷ xs) k (more first r) m = go (order k x) refl (insert-stays xs k r) where

@@ -1,4 +1,4 @@
--- What a walk sees below two suffixes of one set that are both below the limit: the same.
+-- A walk sees the same below two suffixes of one set that are both below the limit.
 use Rattle.std.proofs.Common.{◌≡◌, ℕ, zero, suc, ◌+◌, ◌-◌, ◌^◌, ◌<◌, ◌≤◌, max, Bool, true, false, inl, inr, List, [], ◌∷◌, ◌++◌, length, map, flat_map, if◌then◌else◌, Option, None, refl, sym, ap, subst, arith, le-ltb, lt-ltb, ltb-true, ltb-false, ◌∙◌}
 use Rattle.std.proofs.lemmas.Bool.{cases_Bool, cases_lt}
 use Rattle.std.proofs.lemmas.List.{map-append}
@@ -32,7 +32,7 @@ module _ (n : ℕ) (records : List (List ℕ)) (limit : ℕ) where
   abbrev pub sight : List ℕ → Sight
   sight t = record { under = is_under n records limit t; long = length t; refuter = end_refuter t }
 
-  -- ---- of a suffix with one candidate more in front
+  -- ---- for a suffix with one more candidate in front
   module _ (c : ℕ) (s : List ℕ) (proper : is_suffix n (c ∷ s) ≡ true) (some : 0 < length s) where
     raised : low n records (c ∷ s) ≡ max (low n records s) (step n records (set_of s) c)
     raised = low_by_steps n records c s proper

@@ -1,4 +1,4 @@
--- What the two searches, for the assertions and for the order, say of the counts.
+-- What the two searches, for the assertions and for the order, say about the counts.
 use Rattle.std.proofs.Common.{◌≡◌, ◌≢◌, ℕ, ◌+◌, ◌-◌, ◌<◌, ◌≤◌, Bool, true, false, cond, not, ◌&&◌, ◌==◌, nat_lt, nat_le, inl, inr, List, [], ◌∷◌, filter, find, Option, Some, None, Result, Ok, Err, refl, sym, ap, arith, ltb-true, lt-ltb, le-ltb, le-leb, eq-eqb, ne_eqb, ◌∙◌}
 use Rattle.std.proofs.Math.Path.{fun_ext}
 use Rattle.std.specs.List.{range_with_len}
@@ -70,7 +70,7 @@ module _ (n nodes : ℕ) (kept : List ℕ → Bool) where
     go (Err (Found s)) e ih = cc
     go (Err Spent) e ih = let same : c ≡ last = cc in member_at same
 
-  -- at or behind the candidate that it begins with
+  -- at or after the candidate that it begins with
   pub scan-later : (winner c last : ℕ) → scan_from n nodes kept winner c ≡ Err last → c ≤ last
   scan-later winner c last h =
       (from_range last c (n - c) (from_filter (λ d. not (d == winner)) (range_with_len c (n - c))
@@ -102,7 +102,7 @@ find-none : {X : Type 0} (p : X → Bool) (xs : List X) → ((x : X) → Member 
 find-none p [] h = refl
 find-none p (x ∷ xs) h = rw (h x here) (find-none p xs (λ y m. h y (there m)))
 
--- below one more is at most
+-- below one more means at most
 under-suc : (a b : ℕ) → nat_lt a (b + 1) ≡ nat_le a b
 under-suc a b =
     elim (cases_lt b a) [

@@ -1,4 +1,4 @@
--- The claims of some candidates, of one more, and of two parts; those of all are the certificate's.
+-- The claims of some candidates, of one more, and of two parts; the claims of all are the certificate's.
 use Rattle.std.proofs.Common.{◌≡◌, ℕ, ◌⊎◌, ◌==◌, ◌||◌, Bool, true, false, not, inl, inr, List, [], ◌∷◌, map, Some, Contains, refl, sym, ap, subst, ◌∙◌}
 use Rattle.irv_base.specs.Candidates.{candidates, all_but}
 use Rattle.irv_base.proofs.Members.{Member, member_nil, member-filter, from_filter, member-flat_map, from_flat_map, contains-from_member, member-from_contains, from_candidates}
@@ -57,7 +57,7 @@ module _ (n : ℕ) (records : List (List ℕ)) (task : Task) where
     );
   }
 
-  -- one candidate more
+  -- one more candidate
   pub claims-more : (own its : ℕ → Bool) (last : ℕ) (entries next : List (Assertion × ℕ)) → IsOwn n records task its last →
       ((c : ℕ) → IsOwn n records task own c → IsOwn n records task its c) →
       ((c : ℕ) → IsOwn n records task its c → IsOwn n records task own c ⊎ (c ≡ last)) → AreClaims n records task own entries →

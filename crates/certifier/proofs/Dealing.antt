@@ -96,7 +96,7 @@ module _ (n : ℕ) (records : List (List ℕ)) (task : Task) (workers number : �
     go None e k = cc
     go (Some last) e k = deal-over c p last e h
 
--- ---- the workers in turn
+-- ---- the workers in order
 middle : {X : Type 0} (before rest : List X) (x d : X) → get_or (before ++ x ∷ rest) (length before) d ≡ x
 middle [] rest x d = refl
 middle (y ∷ before) rest x d = middle before rest x d

@@ -1,4 +1,4 @@
--- The ends of a walk among the suffixes that end in one, from those of its children.
+-- The ends of a walk among the suffixes that end in a given one, from those of its children.
 use Rattle.std.proofs.Common.{◌≡◌, ℕ, zero, suc, ◌-◌, ◌<◌, ◌≤◌, Bool, true, false, nat_lt, nat_le, inl, inr, List, [], ◌∷◌, ◌++◌, length, filter, flat_map, if◌then◌else◌, refl, sym, ap, arith, le-leb, le-ltb, le_trans, ◌∙◌}
 use Rattle.std.specs.declared.cmp.Ordering.{Ordering}
 use Rattle.std.proofs.lemmas.List.Elements.{filter-append}
@@ -43,7 +43,7 @@ module _ (n : ℕ) (records : List (List ℕ)) (limit : ℕ) where
   end-past c (d ∷ t) some le = and_right (nat_le limit (low n records (c ∷ d ∷ t))) (nat_lt (low n records (d ∷ t)) limit)
       (le-ltb (low n records (d ∷ t)) limit le)
 
-  -- ---- none beyond an end: among the children, where what is said of theirs is known
+  -- ---- none beyond an end: among the children, given what holds for each of them
   beyond-step : (k : ℕ) (t : List ℕ) → is_suffix n t ≡ true → limit ≤ low n records t → (s : List ℕ) →
       ((c : ℕ) → is_suffix n (c ∷ t) ≡ true → limit ≤ low n records (c ∷ t) → Member s (suffixes_ending n k (c ∷ t)) → is_end (low n records) limit s ≡ false) →
       Member s (flat_map (λ c. if is_in t c then [] else suffixes_ending n k (c ∷ t)) (candidates n)) → is_end (low n records) limit s ≡ false
@@ -109,7 +109,7 @@ module _ (n : ℕ) (records : List (List ℕ)) (limit : ℕ) where
       ap (gathered cmp score entries) (filter-append (is_end (low n records) limit) xs ys)
       ∙ fold-append (λ so_far suffix. with_score cmp so_far (score suffix)) entries (ends_in n records limit xs) (ends_in n records limit ys)
 
-  -- ---- of those that a walk keeps
+  -- ---- the ends that a walk keeps
   module _ (cmp : Assertion → Assertion → Ordering) (score : List ℕ → Score) (entries : List (Assertion × ℕ)) where
     abbrev pub kept_in : Bool → List (List ℕ) → List (Assertion × ℕ)
     kept_in keeps xs = gathered cmp score entries (kept_ends keeps n records limit xs)

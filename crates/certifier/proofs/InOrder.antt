@@ -1,4 +1,4 @@
--- Marks of a list: those of its first entries, the same sorted, and the last of each number.
+-- The marks of a list: those of its first entries, the same marks sorted, and the last mark of each number.
 use Rattle.std.proofs.Common.{◌≡◌, ℕ, ◌+◌, ◌<◌, ◌≤◌, ◌==◌, ◌&&◌, ◌++◌, not, Bool, true, false, true≢false, cond, if◌then◌else◌, List, [], ◌∷◌, map, length, take, get_or, IsPermutation, refl, sym, ap, ap₂, subst, arith, ◌∙◌}
 use Rattle.std.proofs.lemmas.Cmp.{nat_cmp_total, ranked, tied_itself}
 use Rattle.std.proofs.lemmas.List.{map-append, take_more}
@@ -49,7 +49,7 @@ is_eq-Equal Less h = cc
 is_eq-Equal Equal h = refl
 is_eq-Equal Greater h = cc
 
--- of several marks with one number that stand together the last
+-- of several adjacent marks with one number, the last
 abbrev pub lasts_of : List Mark → List Mark
 lasts_of [] = []
 lasts_of (m ∷ []) = m ∷ []
@@ -109,7 +109,7 @@ module _ (list : List (Assertion × ℕ)) where
           ∙ sym (filter-finer of_a tied zs (all_with_number a zs h.each)))
           ∙ sym (filter-mapped (entry_at list) (λ e. is_eq (order e.0 a)) zs)
 
-  -- ---- the last of each number
+  -- ---- the last mark of each number
   rises : (ms : List Mark) → All (IsMark list) ms → IsNonDecreasingBy (λ (m : Mark). m.number) ms → Rises order (map (entry_at list) ms)
   rises [] h up = tt
   rises (m ∷ []) h up = tt

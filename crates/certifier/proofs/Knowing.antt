@@ -1,4 +1,4 @@
--- What is known of sets, as walks go on.
+-- What is known about sets, as walks continue.
 use Rattle.std.proofs.Common.{◌≡◌, ℕ, ◌+◌, ◌<◌, ◌==◌, Bool, true, false, inl, inr, List, [], ◌∷◌, map, count_by, if◌then◌else◌, Some, None, Contains, refl, sym, ap, subst, eq-eqb, ne_eqb, ◌∙◌}
 use Rattle.std.proofs.lemmas.Bool.{cases_eq}
 use Rattle.irv_base.proofs.Members.{Member, member-map, from_map, member-filter, from_filter, contains-from_member, member-from_contains}
@@ -23,7 +23,7 @@ use Rattle.certifier.proofs.Agreement.{order, marked, keys_of, keys-sorted, keys
 use Rattle.certifier.proofs.Alike.{Sight, end_refuter, sight, same-sights}
 
 module _ (n : ℕ) (records : List (List ℕ)) (limit : ℕ) where
-  -- ---- what is said of one suffix of a set holds of each
+  -- ---- what holds for one suffix of a set holds for each
   count-sights : (xs : List (List ℕ)) → count_by (is_under n records limit) xs ≡ count_by (λ (x : Sight). x.under) (map (sight n records limit) xs)
   count-sights [] = refl
   count-sights (x ∷ xs) =

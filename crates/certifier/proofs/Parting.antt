@@ -1,4 +1,4 @@
--- The part of some candidates: of one more, of two parts, and of all candidates.
+-- The part of some candidates: with one more, of two parts, and of all candidates.
 use Rattle.std.proofs.Common.{◌≡◌, ◌≢◌, ℕ, ◌<◌, ◌≤◌, ◌⊎◌, Bool, true, false, cond, nat_lt, inl, inr, List, [], ◌∷◌, Option, Some, None, Ok, Err, refl, sym, ap, subst, arith, ltb-true, ltb-false, ◌∙◌}
 use Rattle.std.specs.Option.{MatchOption}
 use Rattle.std.proofs.lemmas.Bool.{cases_lt}
@@ -129,7 +129,7 @@ module _ (n : ℕ) (records : List (List ℕ)) (task : Task) where
           claims-join n records task own its a.claims b.claims j.claims (h.claims x) (k.claims y) claims;
     }
 
-  -- ---- one candidate more, behind these
+  -- ---- one more candidate, after these
   module _ (is : IsTask n records task) (two : 1 < n) (own its : ℕ → Bool) (last : ℕ) (p q : Part) (mine : IsOwn n records task its last)
       (there : (c : ℕ) → IsOwn n records task own c → IsOwn n records task its c) (back : (c : ℕ) → IsOwn n records task its c →
       IsOwn n records task own c ⊎ (c ≡ last))
@@ -218,7 +218,7 @@ module _ (n : ℕ) (records : List (List ℕ)) (task : Task) where
     abbrev Spent : ℕ → Type 0
     Spent = IsSpent n records task.winner task.best task.nodes
 
-    -- how far it was looked, where a walk for the assertions is over the budget
+    -- how far the search got, if a walk for the assertions is over the budget
     module _ (c : ℕ) (over : p.over ≡ Some c) (at : IsOver n records task is_any c) where
       before_over : (d : ℕ) → d < c → IsBefore d p.over
       before_over d l = subst (IsBefore d) (sym over) l

@@ -1,4 +1,4 @@
--- The two searches over the alternative winners, by what the walks of single candidates come to.
+-- The two searches over the alternative winners, by the results of the walks of single candidates.
 use Rattle.std.proofs.Common.{◌≡◌, ◌≢◌, ℕ, zero, suc, ◌+◌, ◌-◌, ◌<◌, ◌≤◌, ◌⊎◌, Bool, inl, inr, List, [], ◌∷◌, length, find, Option, Some, None, Result, Ok, Err, refl, sym, ap, subst, arith, ltb-true, ◌∙◌}
 use Rattle.std.proofs.lemmas.Bool.{cases_eq}
 use Rattle.irv_base.proofs.Members.{Member, from_find, member-flat_map}
@@ -19,7 +19,7 @@ use Rattle.certifier.specs.Certified.{IsWithin, IsSpent}
 use Rattle.certifier.specs.OneCandidate.{IsTask, cover_walk, order_walk, IsGone}
 use Rattle.certifier.proofs.Budgets.{none-over, first-over, earlier-within, other-member, reached, spent_is, order_is, covers_are, orders_are}
 
--- a scan goes on to a candidate where the walks of all before it are gone through
+-- a scan continues to a candidate if the walks of all candidates before it are gone through
 module _ (n nodes : ℕ) (kept : List ℕ → Bool) (winner : ℕ) where
   pub scan-passed : (c : ℕ) → c ≤ n → ((d : ℕ) → d < c → d ≢ winner → IsGone (walked n nodes kept 0 (all_ending n (d ∷ [])))) →
       scan_from n nodes kept winner 0 ≡ scan_from n nodes kept winner c
@@ -77,7 +77,7 @@ module _ (n : ℕ) (records : List (List ℕ)) (task : Task) where
   orders-found c d order some l ne gone e =
       sym (orders-passed c some (omega arith) gone) ∙ scan-other n task.nodes to_best task.winner c (Err (stopped.Found order)) l ne (sym e)
 
-  -- ---- what is answered
+  -- ---- the answer
   module _ (is : IsTask n records task) (two : 1 < n) where
     -- the walk for the assertions finds no order, since none is below the best margin
     pub cover-finds_none : (c : ℕ) (order : List ℕ) → c < n → c ≢ task.winner → cover_walk n records task c ≡ Err (stopped.Found order) → ⊥

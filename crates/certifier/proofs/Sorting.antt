@@ -1,4 +1,4 @@
--- Entries put in turn: all sorted at once, or some of them put together first, they give the same.
+-- Entries put in one by one. Sorting all of them at once, or putting some of them together first, gives the same.
 use Rattle.std.proofs.Common.{◌≡◌, ℕ, ◌++◌, Bool, true, false, cond, if◌then◌else◌, unwrap_or, List, [], ◌∷◌, fold, Option, Some, None, inl, inr, refl, sym, ap, ap₂, subst, ◌∙◌}
 use Rattle.std.proofs.Math.Path.{fun_ext}
 use Rattle.std.proofs.lemmas.Bool.{cases_Bool}
@@ -33,12 +33,12 @@ module _ {K : Type 0} where
   unfolding IsStrictlySortedBy
   none-sorted R = tt
 
--- one test asked twice
+-- one test, used twice
 asked_twice : {X : Type 0} (b : Bool) (v w : X) (l : Option X) → cond b (Some v) l ≡ cond b (Some v) (cond b (Some w) l)
 asked_twice true v w l = refl
 asked_twice false v w l = refl
 
--- two tests of which one at most passes, asked in either order
+-- two tests, of which at most one passes, in either order
 either_order : {X : Type 0} (a b : Bool) (v w : X) (l : Option X) → (a ≡ true → b ≡ true → ⊥) → cond a (Some w) (cond b (Some v) l) ≡ cond b (Some v) (cond a (Some w) l)
 either_order true true v w l never = absurd (never refl refl)
 either_order true false v w l never = refl
@@ -51,7 +51,7 @@ one_of_both true v l h = ap (λ m. option_or m (Some v)) (sym h)
 one_of_both false v None h = refl
 one_of_both false v (Some w) h = refl
 
--- of several with one key that stand together the last
+-- of several adjacent entries with one key, the last
 abbrev pub lasts : {K X : Type 0} → (K → K → Ordering) → List (K × X) → List (K × X)
 lasts R [] = []
 lasts R (e ∷ []) = e ∷ []
@@ -64,7 +64,7 @@ Rises R (e ∷ []) = ⊤
 Rises R (e ∷ f ∷ es) = (R e.0 f.0 ≡ Greater → ⊥) × Rises R (f ∷ es)
 
 module _ {K X : Type 0} {R : K → K → Ordering} (o : IsTotalOrder R) where
-  -- what stands with a key
+  -- what goes with a key
   abbrev found : List (K × X) → K → Option X
   found es q = lookup (is_at (R q)) es
 
@@ -173,7 +173,7 @@ module _ {K X : Type 0} {R : K → K → Ordering} (o : IsTotalOrder R) where
     pub all-twice : (es : List (K × X)) → all [] (all [] es) ≡ all [] es
     all-twice es = sorted-stays (all [] es) (all-sorted [] es (none-sorted R))
 
-    -- some of them put together first
+    -- some of the entries put together first
     at_least : (f g h : K → Option X) (es : List (K × X)) (q : K) → f q ≡ option_or (g q) (h q) →
         update_all (eq_by_cmp R) f es q ≡ option_or (update_all (eq_by_cmp R) g es q) (h q)
     at_least f g h [] q e = e
@@ -183,7 +183,7 @@ module _ {K X : Type 0} {R : K → K → Ordering} (o : IsTotalOrder R) where
           go true = refl
           go false = e
 
-    -- ---- put in turn, each where it belongs, or sorted and the last of each key kept
+    -- ---- put in one by one, each in its place, or sorted with only the last of each key kept
     at_key : (f g : K → Option X) (es : List (K × X)) (q : K) → f q ≡ g q → update_all (eq_by_cmp R) f es q ≡ update_all (eq_by_cmp R) g es q
     at_key f g [] q e = e
     at_key f g (p ∷ es) q e =
@@ -238,7 +238,7 @@ module _ {K X : Type 0} {R : K → K → Ordering} (o : IsTotalOrder R) where
     lasts-all es r =
         same (lasts R es) (all [] es) (lasts-sorted es r) (all-sorted [] es (none-sorted R)) (λ q. lasts-found es q r ∙ sym (all-found [] es q))
 
-    -- only the entries with a key tell what is found there
+    -- only the entries with a key determine what is found there
     with_key : (g : K → Option X) (es : List (K × X)) (q : K) →
         update_all (eq_by_cmp R) g es q ≡ update_all (eq_by_cmp R) g (filter (λ e. eq_by_cmp R e.0 q) es) q
     with_key g [] q = refl

@@ -26,7 +26,7 @@ module _ (n : ℕ) (records : List (List ℕ)) (winner best nodes : ℕ) where
       some : (o p : List ℕ) → Some o ≡ Some p → o ≡ p
       some o p e = cc
 
-  -- none is over before the one that is named
+  -- none is over before the named one
   not-earlier : (last other : ℕ) → IsSpent n records winner best nodes last → IsSpent n records winner best nodes other → last < other → ⊥
   not-earlier last other a b lt =
       let same : a.order ≡ b.order = some a.order b.order (sym a.order_is ∙ b.order_is) in

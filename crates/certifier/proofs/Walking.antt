@@ -1,4 +1,4 @@
--- A walk at a suffix, and as it goes on from one child to the next.
+-- A walk at a suffix, and how it continues from one child to the next.
 use Rattle.std.proofs.Common.{◌≡◌, ℕ, ◌+◌, ◌-◌, ◌<◌, ◌≤◌, ◌==◌, true, false, Bool, List, [], ◌∷◌, length, count_by, if◌then◌else◌, Some, None, Contains, IfOk, Result, Ok, Err, refl, sym, ap, subst, arith, le-ltb, lt-ltb, ltb-true, ◌∙◌}
 use Rattle.irv_base.specs.Candidates.{is_in, set_of}
 use Rattle.irv_base.proofs.Members.{Member, contains-from_member, member-from_contains, member_nil}
@@ -45,7 +45,7 @@ module _ (n : ℕ) (records : List (List ℕ)) (limit : ℕ) where
   not-under : (x : ℕ) (s : List ℕ) → x ≡ low n records s → limit ≤ x → is_under n records limit s ≡ false
   not-under x s e le = le-ltb (low n records s) limit (omega arith)
 
--- ---- where it ends at once
+-- ---- if it ends at once
 module _ (bag : Kept) (reach : Reach) (s : Scored) (count : ℕ) (ready : CanWalk bag reach.limit s) where
   pub dropped : reach.limit ≤ s.low → (records : List (List ℕ)) → IsOf bag records → IsWalk reach.last (Ok (Counted count)) (walk_of reach s records count)
   dropped le records h =
@@ -76,7 +76,7 @@ module _ (bag : Kept) (reach : Reach) (s : Scored) (count : ℕ) (ready : CanWal
         (from_under s.tail.n records reach.limit s.low s.tail.list (ready.scored records h).low_is lt) (short-from_none s.tail.n s.tail.list ready.proper w) le,
   )
 
--- where the claims are as they were, the walk may end as it will
+-- if the claims are as they were, the walk may end in any way
 pub where-counted : (r : Result WalkEnd CertFault) (Fact : Type 0) → Fact → IfOk r (λ walk. OnCounted walk Fact)
 where-counted (Ok (Counted count)) Fact fact = fact
 where-counted (Ok (Found order)) Fact fact = tt
@@ -153,7 +153,7 @@ module _ (bag : Kept) (reach : Reach) (s : Scored) (ready : CanWalk bag reach.li
             × (seen ≡ count + count_by (is_under s.tail.n records reach.limit) (all_ending s.tail.n s.tail.list))
         passed = from_walked s.tail.n reach.nodes (is_under s.tail.n records reach.limit) count (all_ending s.tail.n s.tail.list) seen (walk records h)
 
--- ---- a child of it
+-- ---- a child of the suffix
 module _ (bag : Kept) (limit : ℕ) (s x : Scored) (c : ℕ) (ready : CanWalk bag limit s) (lt : s.low < limit) (below : c < s.tail.n)
     (out : is_in s.tail.list c ≡ false) (tail : x.tail ≡ with_front s.tail c) where
   pub child-ready : IsScoredOver bag x → CanWalk bag limit x
@@ -179,7 +179,7 @@ module _ (bag : Kept) (limit : ℕ) (s x : Scored) (c : ℕ) (ready : CanWalk ba
       let long : length x.tail.list ≡ length (c ∷ s.tail.list) = ap (λ t. length t.list) tail in
       omega arith
 
--- ---- as it goes on: what is left of it, from a candidate in front on, is the whole of it
+-- ---- how it continues: what is left of it, from a candidate in front on, is the whole of it
 pub record IsGoing (bag : Kept) (reach : Reach) (s : Scored) (count : ℕ) (before : List (Assertion × ℕ)) (c seen : ℕ) (entries : List (Assertion × ℕ)) : Type
     0 where
   pub walk : (records : List (List ℕ)) → IsOf bag records → rest s.tail.n reach.nodes (is_under s.tail.n records reach.limit) seen s.tail.list c
@@ -224,7 +224,7 @@ module _ (bag : Kept) (reach : Reach) (s : Scored) (count : ℕ) (before : List 
             (sym (below_from-passes s.tail.n s.tail.list c below inside)) ∙ going.claims records h;
       }
 
-      -- what a walk answers of a child
+      -- what a walk answers for a child
       module _ (out : is_in s.tail.list c ≡ false) (x : Scored) (tail : x.tail ≡ with_front s.tail c) where
         at-child : (records : List (List ℕ)) → walk_of reach x records seen ≡ walked s.tail.n reach.nodes (is_under s.tail.n records reach.limit) seen
             (all_ending s.tail.n (c ∷ s.tail.list))

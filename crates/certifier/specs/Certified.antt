@@ -33,7 +33,7 @@ pub record IsSpent (n : ℕ) (records : List (List ℕ)) (winner best nodes last
   pub over : IsOver n (low n records) best order nodes last
   pub least : (c : ℕ) → c < last → c ≢ winner → IsWithin n (low n records) best order nodes c
 
--- what a fault says; want of memory says nothing
+-- what a fault says; running out of memory says nothing
 abbrev pub IsFault : ℕ → List (List ℕ) → ℕ → ℕ → ℕ → CertFault → Type 0
 IsFault n records winner best nodes (Spent last) = IsSpent n records winner best nodes last
 IsFault n records winner best nodes Memory = ⊤

@@ -11,7 +11,7 @@ abbrev pub with_margin : (Assertion → Assertion → Ordering) → List (Assert
 with_margin cmp entries None margin = entries
 with_margin cmp entries (Some a) margin = insert_entry cmp entries a margin
 
--- the assertion of a score put in, if it has one
+-- the entries with the assertion of a score put in, if it has one
 abbrev pub with_score : (Assertion → Assertion → Ordering) → List (Assertion × ℕ) → Score →
     List (Assertion × ℕ)
 with_score cmp entries score = with_margin cmp entries score.by score.low

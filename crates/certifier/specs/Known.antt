@@ -1,4 +1,4 @@
--- What walks within a limit know of the sets that they have gone through.
+-- What walks within a limit know about the sets that they have gone through.
 use Rattle.std.specs.Prelude.{◌≡◌, ◌<◌, ◌+◌, ℕ, Bool, true, false, List, [], map, length, count_by, Some, None, AllPairs, Contains, IsTrue}
 use Rattle.irv_base.specs.Candidates.{set_of}
 use Rattle.irv_base.specs.Suffixes.{is_suffix}
@@ -23,8 +23,8 @@ module _ (n : ℕ) (records : List (List ℕ)) (limit : ℕ) where
     pub under : IsTrue (is_under n records limit suffix)
     pub set_is : set_of suffix ≡ set
 
-  -- of those that end in the suffix, this many are below the limit, none of them whole; if the walks keep the refuters of the ends, these
-  -- are among the keys
+  -- of the suffixes that end in this one, this many are below the limit, and none of those is whole; if the walks keep the refuters of the
+  -- ends, these are among the keys
   pub record IsThrough (keeps : Bool) (keys : List Assertion) (count : ℕ) (suffix : List ℕ)
       : Type 0 where
     pub count_is : count_by (is_under n records limit) (all_ending n suffix) ≡ count
@@ -34,7 +34,7 @@ module _ (n : ℕ) (records : List (List ℕ)) (limit : ℕ) where
         Contains (ends_in n records limit (all_ending n suffix)) last →
         refuter n records last ≡ Some a → Contains keys a
 
-  -- the entries are assertions in the fixed order with their margins, and each set with a count was gone through
+  -- the entries are assertions in the fixed order with their margins, and walks have gone through each set that has a count
   pub record IsKnown (keeps : Bool) (counts : Counts) (entries : List (Assertion × ℕ))
       : Type 0 where
     pub keys : List Assertion
@@ -43,13 +43,13 @@ module _ (n : ℕ) (records : List (List ℕ)) (limit : ℕ) where
     pub through : (set count : ℕ) (suffix : List ℕ) → count_of counts set ≡ Some count →
         IsOfSet set suffix → IsThrough keeps keys count suffix
 
--- the same, of whatever records the bag is of
+-- the same, whatever records the bag is of
 abbrev pub AreKnown : Kept → ℕ → Bool → Counts → List (Assertion × ℕ) → Type 0
 AreKnown bag limit keeps counts entries =
     (records : List (List ℕ)) → IsOf bag records →
     IsKnown bag.n records limit keeps counts entries
 
--- what a worker knows, as long as it walks on for the assertions, and for the order
+-- what a worker knows while it still walks, for the assertions and for the order
 pub record HasKnown (bag : Kept) (task : Task) (part : Part) (known : Known) : Type 0 where
   pub covers : part.over ≡ None →
       AreKnown bag task.best true known.covers part.claims

@@ -16,12 +16,12 @@ use Rattle.certifier.specs.declared.part.Part.{Part}
 use Rattle.certifier.specs.Gathered.{gathered}
 use Rattle.certifier.specs.Walks.{is_under, IsWalk, OnCounted, ends_in}
 
--- what is asked about is the contest of the records
+-- the task is about the contest of the records
 pub record IsTask (n : ℕ) (records : List (List ℕ)) (task : Task) : Type 0 where
   pub winner : task.winner < n
   pub best : task.best ≡ best_margin n task.winner (low n records)
 
--- the walk for the assertions goes as far as the best margin isn't reached, that for the order as far as it isn't passed
+-- the walk for the assertions goes on while the best margin isn't reached, the walk for the order while it isn't exceeded
 abbrev pub cover_walk : ℕ → List (List ℕ) → Task → ℕ → Result ℕ Stop
 cover_walk n records task last =
     walked n task.nodes (is_under n records task.best) 0 (all_ending n (last ∷ []))
@@ -30,11 +30,11 @@ abbrev pub order_walk : ℕ → List (List ℕ) → Task → ℕ → Result ℕ 
 order_walk n records task last =
     walked n task.nodes (is_under n records (task.best + 1)) 0 (all_ending n (last ∷ []))
 
--- a walk comes to no whole order, and is within the budget
+-- a walk reaches no whole order, and is within the budget
 abbrev pub IsGone : Result ℕ Stop → Type 0
 IsGone walk = (count : ℕ) × (walk ≡ Ok count)
 
--- at this order, or without one over the budget
+-- a stop at this order, or over the budget if there is none
 abbrev pub stop_of : Option (List ℕ) → Stop
 stop_of None = stopped.Spent
 stop_of (Some order) = stopped.Found order
@@ -54,7 +54,7 @@ IsNextEnd last (Some end) next walk = next ≡ Some end
 IsNextEnd last None None walk = IsGone walk
 IsNextEnd last None (Some end) walk = (end.last ≡ last) × (walk ≡ Err (stop_of end.order))
 
--- what is found of this candidate is put to the part
+-- what is found for this candidate is added to the part
 pub record IsNextWithin (n : ℕ) (records : List (List ℕ)) (task : Task) (last : ℕ)
     (part next : Part) : Type 0 where
   pub covered : IsCovered n records task last part.claims next.claims false

@@ -1,4 +1,4 @@
--- What is found among the suffixes that end in some of the candidates: a part of what the certificate is made of.
+-- What is found among the suffixes that end in some of the candidates: a part of what makes up the certificate.
 use Rattle.std.specs.Prelude.{◌≡◌, ◌≢◌, ◌<◌, ◌%◌, ◌↔◌, ℕ, Bool, true, false, ◌||◌, ◌==◌, nat_lt, if◌then◌else◌, List, [], ◌∷◌, map, length, slice_index_or, Option, Some, None, Result, Err, AllPairs, Contains, IfOk, IsTrue, ⊤}
 use Rattle.std.specs.Option.{MatchOption}
 use Rattle.irv_base.specs.declared.memory.Memory.{Memory}
@@ -39,7 +39,7 @@ abbrev pub order_of : Option OrderEnd → Option (List ℕ)
 order_of None = None
 order_of (Some end) = end.order
 
--- the candidate, if the walk is over the budget
+-- the candidate, if its walk is over the budget
 abbrev pub spent_by : ℕ → Option (List ℕ) → Option ℕ
 spent_by last None = Some last
 spent_by last (Some order) = None
@@ -59,7 +59,7 @@ first_end (Some a) None = Some a
 first_end (Some a) (Some b) = if nat_lt b.last a.last then Some b else Some a
 
 module _ (n : ℕ) (records : List (List ℕ)) (task : Task) where
-  -- among the candidates that are meant, an alternative winner
+  -- an alternative winner, among the candidates in question
   pub record IsOwn (own : ℕ → Bool) (c : ℕ) : Type 0 where
     pub below : c < n
     pub alternative : c ≢ task.winner
@@ -79,18 +79,18 @@ module _ (n : ℕ) (records : List (List ℕ)) (task : Task) where
     pub rising : AllPairs (λ a b. IsTrue (is_before a b)) keys
     pub listed : (a : Assertion) → (Contains keys a ↔ IsRefuter own a)
 
-  -- for one of these candidates the walk for the assertions is over the budget
+  -- the walk for the assertions of one of these candidates is over the budget
   pub record IsOver (own : ℕ → Bool) (last : ℕ) : Type 0 where
     pub candidate : IsOwn own last
     pub walk : cover_walk n records task last ≡ Err stopped.Spent
 
-  -- for one of these candidates the walk for the order has this end
+  -- the walk for the order of one of these candidates has this end
   pub record IsEndOf (own : ℕ → Bool) (end : OrderEnd) : Type 0 where
     pub candidate : IsOwn own end.last
     pub walk : order_walk n records task end.last ≡ Err (stop_of end.order)
 
-  -- For these candidates no walk for the assertions is over the budget before the one that is named, and no walk for the order has an end
-  -- before the one that is named. If none is over, the claims are those of the ends of all of them.
+  -- For these candidates, no walk for the assertions is over the budget before the named candidate's, and no walk for the order has an end
+  -- before the named candidate's. If none is over, the claims are those of the ends of all of them.
   pub record IsPart (own : ℕ → Bool) (part : Part) : Type 0 where
     pub covers : (c : ℕ) → IsOwn own c → IsBefore c part.over → IsGone (cover_walk n records task c)
     pub over : MatchOption part.over ⊤ (IsOver own)
@@ -99,7 +99,7 @@ module _ (n : ℕ) (records : List (List ℕ)) (task : Task) where
     pub end : MatchOption part.end ⊤ (IsEndOf own)
     pub claims : part.over ≡ None → AreClaims own part.claims
 
-  -- the same of a part that there is, and nobody's of none
+  -- the same for a part, if there is one; if there is none, it is for no candidates
   abbrev pub IsPartSoFar : (ℕ → Bool) → Option Part → Type 0
   IsPartSoFar own None = (c : ℕ) → own c ≡ false
   IsPartSoFar own (Some part) = IsPart own part
@@ -110,7 +110,7 @@ module _ (n : ℕ) (records : List (List ℕ)) (task : Task) where
 
 -- ---- the parts of several workers
 
--- what a worker has after its share; of an `Err` nothing is said
+-- what a worker has after its share; an `Err` says nothing
 abbrev pub HasPart : Kept → Task → ℕ → ℕ → Result Part Memory → Type 0
 HasPart bag task workers number part =
     (records : List (List ℕ)) → IsOf bag records → IsTask bag.n records task →

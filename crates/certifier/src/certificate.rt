@@ -18,15 +18,15 @@ use std::alloc::Global;
 use std::collections::BTreeMap;
 use std::thread::Threads;
 
-/// What is published of a contest to prove its winner.
+/// What is published about a contest to prove its winner.
 #[derive(Drop)]
 pub struct Certificate {
-    /// The assertions and their margins, each once, in the fixed order. Together they refute each order that elects
-    /// another candidate.
+    /// The assertions and their margins, each once, in the fixed order. Together they refute each order that elects another candidate.
     pub claims: Vec<Claim>,
     /// The smallest of the margins, in votes. No set of assertions that refutes these orders has a larger one.
     pub margin: u32,
-    /// Of the orders that elect another candidate, and that no true assertion of larger margin refutes, the least when read backwards.
+    /// The order that is the least, read backwards, of those that elect another candidate and that no true assertion of larger margin
+    /// refutes.
     pub order: Order,
 }
 
@@ -44,17 +44,18 @@ pub fn listed(alloc: Global, claims: &BTreeMap<Assertion, u32>) -> Result<Vec<Cl
     Ok(list)
 }
 
-/// The canonical certificate of the contest with these records, whose tabulated order is that of `tab` and whose best margin, in votes,
-/// is `best`, which is above 0: ways of breaking ties don't change the winner. Only the records determine it, whichever search found the
-/// best margin, and at any number of workers.
+/// The canonical certificate of the contest with these records, whose tabulated order is that of `tab` and whose best margin, in votes, is
+/// `best`, which is above 0: ways of breaking ties don't change the winner. The certificate depends only on the records, whichever search
+/// found the best margin and whatever the number of workers.
 ///
-/// For each alternative winner two counts are taken, of suffixes that end in that candidate and aren't whole orders: those whose low is
-/// below the best margin; and those whose low is at most the best margin and that come before the certificate's order, both read
-/// backwards. The answer is `Spent`, with the least alternative winner for whom a count is above `nodes`, exactly if there is one. The
-/// other error is want of memory.
+/// For each alternative winner two counts are taken of suffixes that end in that candidate and aren't whole orders. The first counts those
+/// whose low is below the best margin. The second counts those whose low is at most the best margin and that come before the certificate's
+/// order, both read backwards. The answer is `Spent`, with the least alternative winner for whom a count is above `nodes`, exactly if there
+/// is one. The other error means that memory ran out.
 ///
-/// The alternative winners are divided among the workers, each with tallies of its own. A worker goes into each set of candidates once
-/// for the one count and once for the other, whichever the last candidate. Besides its claims it holds the numbers that it counted from
+/// The alternative winners are divided among the workers, each with its own tallies. A worker goes into each set of candidates once for
+/// each of the two counts, whichever candidate is last. Besides its claims, it holds the numbers that it counted from these sets on and, at
+/// any one time, one suffix of each length.
 /// these sets on and, at one time, one suffix of each length.
 pub fn certify<R: AllocGlobal + Threads + Sync>(
     rt: &R,
@@ -85,7 +86,7 @@ pub fn certify<R: AllocGlobal + Threads + Sync>(
         return Err(CertFault::Spent { last });
     }
     let claims = found.claims.listed(rt.alloc())?;
-    // Some alternative order has the best margin, so one was found.
+    // Some alternative order has the best margin, so an order was found.
     let order = found.order().unwrap_or(tab.order);
     Ok(Certificate {
         claims,

@@ -1,7 +1,7 @@
 // Assertions with their margins, gathered in any order.
 //
-// Claims are kept as they come and sorted once, by their numbers and places. With fifteen near-equal candidates there are 113,026; an
-// ordered map takes nearly twice as long.
+// Claims are kept in the order they arrive and sorted once, by their numbers and places. With fifteen near-equal candidates there are
+// 113,026 claims; an ordered map takes nearly twice as long.
 ghost use Rattle.std.specs.Prelude.{◌≡◌, [], map, IfOk, OnOk};
 ghost use Rattle.std.specs.BTreeMap.{insert_entry};
 ghost use Rattle.certifier.specs.Gathered.{with_all, claim_at};
@@ -12,17 +12,18 @@ use irv_base::Memory;
 use std::alloc::Global;
 use std::marker::Model;
 
-// How long a list grows before it is sorted: the walks of a contest of 15 candidates put fewer.
+// The length to which a list grows before it is sorted: the walks of a contest of 15 candidates put fewer claims.
 const FIRST_SORT: usize = 1 << 18;
 
 /// Assertions with their margins, each once.
 ///
-/// To a contract they are the entries in the fixed order.
+/// To a contract, they are the entries in the fixed order.
 #[derive(Drop)]
 pub struct Claims {
-    // As they were put: of several with one assertion the last counts. To put each at its place at once would take longer.
+    // The entries as they were put: if several have the same assertion, the last one counts. Putting each in its place at once would take
+    // longer.
     list: Vec<(Assertion, u32)>,
-    // How long the list may grow before each assertion is left once.
+    // The length to which the list may grow before it is reduced to one entry for each assertion.
     most: usize,
 }
 
@@ -39,7 +40,7 @@ impl Model for Claims {
 }
 
 impl Claims {
-    /// No assertion yet.
+    /// No assertions yet.
     pub fn new(alloc: Global) -> Claims
         ensures { result ≡ [] }
     {
@@ -49,7 +50,7 @@ impl Claims {
         }
     }
 
-    /// Puts the assertion among them, with this margin.
+    /// Puts the assertion among the claims, with this margin.
     pub fn put(&mut self, assertion: Assertion, margin: u32) -> Result<(), Memory>
         ensures { OnOk result (self.new
             ≡ insert_entry ⟦<Assertion as Ord>⟧.cmp self.old assertion margin) }
@@ -61,7 +62,7 @@ impl Claims {
         self.shorten()
     }
 
-    /// Puts all of the others among them.
+    /// Puts all of the other's claims among these.
     pub fn join(&mut self, other: &Claims) -> Result<(), Memory>
         ensures { OnOk result (self.new
             ≡ with_all ⟦<Assertion as Ord>⟧.cmp self.old other.now) }
@@ -77,7 +78,7 @@ impl Claims {
         in_order(alloc, self.list.as_slice())
     }
 
-    /// Sorts them, so that they take less room, and less time when they are listed.
+    /// Sorts the claims, so that they take less room, and less time to list.
     pub fn shorten(&mut self) -> Result<(), Memory>
         ensures { OnOk result (self.new ≡ self.old) }
     {

@@ -1,4 +1,4 @@
-// How many suffixes count from a set of candidates on.
+// The number of suffixes that count from a set of candidates on.
 ghost use Rattle.std.specs.Prelude.{◌≡◌, ◌==◌, ℕ, if◌then◌else◌, Some, None, OnOk};
 ghost use Rattle.certifier.specs.Counts.{count_of};
 
@@ -6,16 +6,16 @@ use irv_base::{CandSet, Memory};
 use std::alloc::Global;
 use std::collections::HashMap;
 
-/// The sets that walks within one limit have gone through, each with its count: how many suffixes from one of this set on, itself among
-/// them, are below the limit. What can be put in front of a suffix below the limit depends on its set alone, so the next walk that comes
-/// to the set adds the count, and need not go in.
+/// The sets that walks within one limit have gone through, each with its count. The count is the number of suffixes below the limit from
+/// one of this set on, itself included. What can be put in front of a suffix below the limit depends only on the suffix's set, so the next
+/// walk that reaches the set adds the count and need not go in.
 #[derive(Drop)]
 pub struct Counts {
     by_set: HashMap<CandSet, u32>,
 }
 
 impl Counts {
-    /// No set yet.
+    /// No sets yet.
     pub fn new(alloc: Global) -> Counts
         ensures { (set : ℕ) → count_of result set ≡ None }
     {
@@ -24,7 +24,7 @@ impl Counts {
         }
     }
 
-    /// The count of a set that was gone through.
+    /// The count of a set, if walks have gone through it.
     pub fn of(&self, set: CandSet) -> Option<u32>
         ensures { result ≡ count_of self.now set }
     {

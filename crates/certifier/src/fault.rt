@@ -9,9 +9,9 @@ use std::fmt;
 /// Why there is no certificate.
 #[derive(Clone, Copy, Debug, PartialEq, Eq)]
 pub enum CertFault {
-    /// The least alternative winner for whom more suffixes count than the budget has.
+    /// More suffixes count for this alternative winner than the budget allows. It is the least such candidate.
     Spent { last: Candidate },
-    /// Memory could not be had.
+    /// There isn't enough memory.
     Memory,
 }
 

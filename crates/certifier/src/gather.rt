@@ -16,38 +16,39 @@ use set_tallies::Tallies;
 use std::alloc::Global;
 use suffix_tree::{Scored, Tail, score};
 
-/// What a certificate is looked for with: the winner of the contest, and how far the walks go.
+/// The task of a search for a certificate: the winner of the contest, and how far the walks go.
 #[derive(Clone, Copy)]
 pub struct Task {
-    /// The winner of the contest: the walks are those of the other candidates.
+    /// The winner of the contest. The walks are those of the other candidates.
     pub winner: Candidate,
     /// The best margin, in votes.
     pub best: u32,
-    /// How many suffixes may count for an alternative winner.
+    /// At most this many suffixes may count for an alternative winner.
     pub nodes: u32,
 }
 
-/// Which candidates are dealt to a worker: those of which its number is left when they are divided by the number of workers.
+/// The candidates that are dealt to a worker: those whose number, divided by the number of workers, leaves the worker's number as the
+/// remainder.
 #[derive(Clone, Copy)]
 pub struct Dealt {
     /// The number of the worker, from 0.
     pub number: u32,
-    /// How many workers there are.
+    /// The number of workers.
     pub workers: u32,
 }
 
-/// The sets that the walks of a worker have gone through. The count of a set doesn't depend on who is last, so the walks of all its
+/// The sets that a worker's walks have gone through. The count of a set doesn't depend on who is last, so the walks of all the worker's
 /// candidates share them.
 #[derive(Drop)]
 pub struct Known {
-    /// By the walks for the assertions.
+    /// The sets of the walks for the assertions.
     pub covers: Counts,
-    /// By the walks for the order.
+    /// The sets of the walks for the order.
     pub orders: Counts,
 }
 
-// The walk for the assertions of the certificate, through the suffixes that end in `last`: puts them among the claims, or says
-// that it is over the budget.
+// Walks for the assertions of the certificate through the suffixes that end in `last`. Puts the assertions among the claims, or reports
+// that the walk is over the budget.
 fn cover(
     alone: &Scored,
     last: Candidate,
@@ -81,8 +82,8 @@ fn cover(
     }
 }
 
-// The end of the walks for the order, if one had it earlier or this one has: it goes to the first order whose low is at most the best
-// margin.
+// The end of the walks for the order, if an earlier walk had one or this one has. The walk goes to the first order whose low is at most the
+// best margin.
 fn next_end(
     alloc: Global,
     alone: &Scored,
@@ -112,7 +113,7 @@ fn next_end(
         nodes: task.nodes,
         keeps: false,
     };
-    // The refuters of its ends are none of the certificate's, so none is put in.
+    // The certificate doesn't include the refuters of this walk's ends, so none is put in.
     let mut none = Claims::new(alloc);
     match walk(alone, &reach, 0, counts, &mut none, tallies) {
         Ok(end) => match end {
@@ -129,7 +130,7 @@ fn next_end(
     }
 }
 
-// The part with what is found among the suffixes that end in one more candidate.
+// The part, with what is found among the suffixes that end in one more candidate.
 fn gather_candidate(
     alloc: Global,
     last: Candidate,
@@ -176,7 +177,7 @@ impl Dealt {
     }
 }
 
-/// What is found among the suffixes that end in the candidates that are dealt to a worker, up to the first whose walk for the assertions
+/// What is found among the suffixes that end in the candidates dealt to a worker, up to the first candidate whose walk for the assertions
 /// is over the budget.
 pub fn gather(
     alloc: Global,
@@ -205,7 +206,7 @@ pub fn gather(
             part = gather_candidate(alloc, last, task, part, &mut known, tallies)?;
         }
     }
-    // Each worker sorts its own, which are then merged.
+    // Each worker sorts its own claims, which are then merged.
     if dealt.workers > 1 {
         part.claims.shorten()?;
     }

@@ -1,4 +1,4 @@
-// Assertions with their margins, put in the fixed order.
+// Assertions with their margins, sorted into the fixed order.
 ghost use Rattle.std.specs.Prelude.{◌≡◌, [], map, IfOk};
 ghost use Rattle.certifier.specs.Gathered.{with_all, claim_at};
 ghost use Rattle.certifier.specs.InOrder.{AreMarks, AreSorted};
@@ -7,14 +7,14 @@ use assertions::{Assertion, Claim};
 use irv_base::Memory;
 use std::alloc::Global;
 
-// An entry of a list: the number of its assertion, which each comparison asks for, and its place.
+// An entry of a list: the number of its assertion, which each comparison needs, and its place.
 #[derive(Clone, Copy)]
 struct Mark {
     number: u64,
     place: usize,
 }
 
-// A mark of each entry.
+// A mark for each entry.
 fn marks(alloc: Global, list: &[(Assertion, u32)]) -> Result<Vec<Mark>, Memory>
     ensures { IfOk result (λ marks. AreMarks list.now list.now marks.items) }
 {
@@ -29,7 +29,7 @@ fn marks(alloc: Global, list: &[(Assertion, u32)]) -> Result<Vec<Mark>, Memory>
     Ok(marks)
 }
 
-// The marks in rising order; those of one number stay in turn.
+// The marks in increasing order; marks with equal numbers keep their order.
 fn sorted(alloc: Global, list: &[(Assertion, u32)]) -> Result<Vec<Mark>, Memory>
     ensures { IfOk result (λ marks. AreSorted list.now marks.items) }
 {
@@ -38,7 +38,7 @@ fn sorted(alloc: Global, list: &[(Assertion, u32)]) -> Result<Vec<Mark>, Memory>
     Ok(marks)
 }
 
-/// The entries put in turn, as claims in the fixed order: of several with one assertion the last counts.
+/// The entries put in one by one, as claims in the fixed order. If several entries have the same assertion, the last one counts.
 pub fn in_order(alloc: Global, list: &[(Assertion, u32)]) -> Result<Vec<Claim>, Memory>
     ensures { IfOk result (λ claims. claims.items
         ≡ map claim_at (with_all ⟦<Assertion as Ord>⟧.cmp [] list.now)) }

@@ -1,5 +1,5 @@
-//! The canonical certificate of a contest: the one set of assertions that the records determine, with its margin, and an
-//! order that no true assertion of larger margin refutes. It is found within a budget of suffixes, by several workers.
+//! The canonical certificate of a contest: the one set of assertions that the records determine, with its margin, and an order that no true
+//! assertion of larger margin refutes. Several workers find it, within a budget of suffixes.
 #![tactic(auto)]
 
 mod certificate;

@@ -1,4 +1,4 @@
-// What was found among the suffixes that end in some of the candidates, and two such parts put together.
+// What was found among the suffixes that end in some of the candidates, and how two such parts are joined.
 ghost use Rattle.std.specs.Prelude.{◌≡◌, ℕ, Bool, None, [], List, IfOk};
 ghost use Rattle.certifier.specs.Parts.{IsPart, in_either, lesser, first_end, order_of, spent_at};
 ghost use Rattle.certifier.specs.declared.gather.Task.{Task};
@@ -10,9 +10,9 @@ use std::alloc::Global;
 /// How a walk for the order ends.
 #[derive(Clone, Copy)]
 pub struct OrderEnd {
-    /// The suffixes of the walk end in this candidate.
+    /// The candidate that the suffixes of the walk end in.
     pub last: Candidate,
-    /// The order that it reaches, or none if it is over the budget.
+    /// The order that the walk reaches, or none if it is over the budget.
     pub order: Option<Order>,
 }
 
@@ -21,9 +21,9 @@ pub struct OrderEnd {
 pub struct Part {
     /// The assertions with their margins.
     pub claims: Claims,
-    /// The least of the candidates whose walk for the assertions is over the budget.
+    /// The least candidate whose walk for the assertions is over the budget.
     pub over: Option<Candidate>,
-    /// The end of a walk for the order, of the least candidate whose walk has one.
+    /// The end of a walk for the order: that of the least candidate whose walk has one.
     pub end: Option<OrderEnd>,
 }
 
@@ -73,7 +73,7 @@ impl Part {
         }
     }
 
-    /// What was found in the one part or in the other.
+    /// What was found in either part.
     pub fn join(self, other: Part) -> Result<Part, Memory>
         ensures { IfOk result (λ joined.
             (n : ℕ) (records : List (List ℕ)) (task : Task) (own its : ℕ → Bool)
@@ -104,7 +104,7 @@ impl Part {
         lesser(self.over, end)
     }
 
-    /// The order that the walks come to.
+    /// The order that the walks reach.
     pub fn order(&self) -> Option<Order>
         ensures { result ≡ order_of self.now.end }
     {

@@ -1,7 +1,7 @@
 // The workers, each in a thread.
 //
-// Candidates are dealt by their numbers, each next one to the next worker. A worker doesn't know what the others have found, so it may
-// walk for an order that comes after theirs: about a third more work with twelve near-equal candidates, shared by the workers.
+// Candidates are dealt by their numbers, in rotation: each goes to the next worker. A worker doesn't know what the others have found, so it
+// may walk for an order that comes after theirs. With twelve near-equal candidates this is about a third more work, shared by the workers.
 ghost use Rattle.std.specs.Prelude.{◌≡◌, ◌<◌, ◌≤◌, ℕ, Bool, List, IfOk, length};
 ghost use Rattle.set_tallies.specs.Bags.{Kept, IsOf};
 ghost use Rattle.certifier.specs.OneCandidate.{IsTask};
@@ -17,7 +17,7 @@ use std::alloc::Global;
 use std::thread;
 use std::thread::Threads;
 
-// A place for the part of each worker. It holds an `Err` before the worker is done.
+// A place for each worker's part. It holds an `Err` until the worker is done.
 fn places(alloc: Global, workers: u32) -> Result<Vec<Result<Part, Memory>>, Memory>
     ensures { IfOk result (λ places. length places.items ≡ workers) }
 {
@@ -28,7 +28,7 @@ fn places(alloc: Global, workers: u32) -> Result<Vec<Result<Part, Memory>>, Memo
     Ok(places)
 }
 
-// The part of one worker, over tallies of its own.
+// The part of one worker, which uses its own tallies.
 fn part_of(
     alloc: Global,
     task: &Task,
@@ -68,7 +68,7 @@ fn run<R: Threads + Sync>(
     );
 }
 
-// What was found so far, with one part more.
+// What has been found so far, with one more part.
 fn with_part(so_far: Option<Part>, part: Part) -> Result<Part, Memory>
     ensures { IfOk result (λ all.
         (n : ℕ) (records : List (List ℕ)) (task : TheTask) (own its : ℕ → Bool)
@@ -81,7 +81,7 @@ fn with_part(so_far: Option<Part>, part: Part) -> Result<Part, Memory>
     }
 }
 
-// The parts of all workers, put together.
+// The parts of all workers, joined.
 fn joined(alloc: Global, parts: Vec<Result<Part, Memory>>) -> Result<Part, Memory>
     ensures { IfOk result (λ all.
         (bag : Kept) (task : TheTask) (workers : ℕ) (records : List (List ℕ))
@@ -98,8 +98,7 @@ fn joined(alloc: Global, parts: Vec<Result<Part, Memory>>) -> Result<Part, Memor
     }
 }
 
-// What the workers find among the suffixes of all orders that elect another candidate, unless memory is short or rows of tallies take
-// long.
+// What the workers find among the suffixes of all orders that elect another candidate, unless memory runs out or rows of tallies take long.
 fn gather_once<R: AllocGlobal + Threads + Sync>(
     rt: &R,
     task: &Task,
@@ -117,8 +116,8 @@ fn gather_once<R: AllocGlobal + Threads + Sync>(
     joined(alloc, parts)
 }
 
-/// What the workers find among the suffixes of all orders that elect another candidate. If rows of tallies take long, they begin again
-/// with sums over all sets, which they share.
+/// What the workers find among the suffixes of all orders that elect another candidate. If rows of tallies take long, the workers start
+/// over with sums over all sets, which they share.
 pub fn gather_all<R: AllocGlobal + Threads + Sync>(
     rt: &R,
     task: &Task,

@@ -1,8 +1,9 @@
-// A walk through the suffixes that end in one, as far as their low is below a limit.
+// A walk through the suffixes that end in a given one, as far as their low is below a limit.
 //
-// Below a suffix whose low is below the limit, what reaches the limit, and by which refuter, depends only on its set (laws `low_by_steps`
-// and `refuter_by_steps`). So once a walk has gone through a set, the number that counts from it on is noted, and the next suffix of this
-// set adds the number. Its refuters are among the claims already. A set is noted when its walk has ended, so no whole order is below it.
+// Below a suffix whose low is below the limit, what reaches the limit, and by which refuter, depends only on the suffix's set (laws
+// `low_by_steps` and `refuter_by_steps`). So once a walk has gone through a set, it notes the number of suffixes that count from the set
+// on, and the next suffix of this set adds that number. The refuters are already among the claims. A set is noted when its walk has ended,
+// so no whole order is below it.
 ghost use Rattle.std.specs.Prelude.{◌≡◌, ◌≤◌, ℕ, List, if◌then◌else◌, IfOk, OnOk};
 ghost use Rattle.set_tallies.specs.Bags.{IsOf};
 ghost use Rattle.certifier.specs.Walks.{CanWalk, IsWalk, walk_of, walked_on, OnCounted, IsFrom, HasGathered};
@@ -17,29 +18,29 @@ use irv_base::{Candidate, Memory, Order};
 use set_tallies::Tallies;
 use suffix_tree::{Scored, child};
 
-/// Which suffixes a walk goes through, and how far.
+/// Which suffixes a walk goes through, and how far it goes.
 #[derive(Clone, Copy)]
 pub struct Reach {
     /// The candidate that the suffixes end in.
     pub last: Candidate,
-    /// Their low is below this number of votes.
+    /// The low of the suffixes is below this number of votes.
     pub limit: u64,
-    /// How many may count.
+    /// At most this many suffixes may count.
     pub nodes: u32,
-    /// Whether the refuters of its ends are put among the claims.
+    /// Whether the refuters of the walk's ends are put among the claims.
     pub keeps: bool,
 }
 
 /// How a walk ends.
 #[derive(Drop)]
 pub enum WalkEnd {
-    /// The walk meets no whole order, and this many suffixes count.
+    /// The walk reaches no whole order, and this many suffixes count.
     Counted(u32),
-    /// The first whole order that it comes to.
+    /// The first whole order that the walk reaches.
     Found(Order),
 }
 
-// Puts the refuter of the suffix, with its margin, among the claims, if the walk keeps them.
+// Puts the suffix's refuter, with its margin, among the claims, if the walk keeps refuters.
 fn put(claims: &mut Claims, reach: &Reach, s: &Scored) -> Result<(), Memory>
     ensures { OnOk result (claims.new
         ≡ (if reach.now.keeps
@@ -56,7 +57,7 @@ fn put(claims: &mut Claims, reach: &Reach, s: &Scored) -> Result<(), Memory>
     Ok(())
 }
 
-// How a walk ends at a suffix from which on this many count, without going in.
+// How a walk ends at a suffix that it doesn't go into, when this many suffixes count from it on.
 fn pass(reach: &Reach, count: u32, number: u32) -> Result<WalkEnd, CertFault>
     requires { count ≤ reach.now.nodes }
     ensures walk { IsWalk reach.now.last result (walked_on reach.now.nodes count number) }
@@ -68,12 +69,12 @@ fn pass(reach: &Reach, count: u32, number: u32) -> Result<WalkEnd, CertFault>
     Ok(WalkEnd::Counted(count + number))
 }
 
-/// Walks the suffixes that end in this one, as far as their low is below the limit, to the first whole order, and adds those that it
-/// passes to the count. The refuters of the ends, the first suffixes that reach the limit, are put among the claims, if the walk keeps
-/// them.
+/// Walks the suffixes that end in this one, as far as their low is below the limit, up to the first whole order, and adds the suffixes that
+/// it passes to the count. The ends are the first suffixes that reach the limit. If the walk keeps refuters, the refuters of the ends are
+/// put among the claims.
 ///
-/// It goes into each set of candidates once: for a set that is noted it adds the count, and the refuters of the ends are among the
-/// claims.
+/// The walk goes into each set of candidates once. For a set that is noted, it adds the set's count, and the refuters of the ends are
+/// already among the claims.
 pub fn walk(
     s: &Scored,
     reach: &Reach,

@@ -1,4 +1,4 @@
--- Whole plain lines at the front of a text have their records, whatever stands behind them.
+-- Whole plain lines at the front of a text have the same records, whatever comes after them.
 use Rattle.std.proofs.Common.{le_refl, ◌≡◌, ◌∙◌, ◌<◌, ◌≤◌, ◌∷◌, ◌++◌, ◌==◌, [], ℕ, zero, suc, Bool, true, false, List, length, refl, sym, ap, ap₂, arith, inl, inr}
 use Rattle.std.specs.Prelude.{if◌then◌else◌, not, nat_eq, ◌&&◌}
 use Rattle.std.specs.List.{starts_with}
@@ -12,7 +12,7 @@ use Rattle.csv_rows.proofs.Plain.{behind-shorter, is_plain_line, line-blank, lin
 
 -- ---- the first of them
 
--- what stands behind whole lines changes nothing in the first of them
+-- what comes after whole lines changes nothing in the first of them
 record FirstLine (lines rest : List ℕ) : Type 0 where
   fields : fields_in (lines ++ rest) ≡ fields_in lines
   behind : behind_line (lines ++ rest) ≡ behind_line lines ++ rest
@@ -67,7 +67,7 @@ pub lines-apart : (lines rest : List ℕ) → is_plain lines ≡ true → are_wh
 unfolding rows
 lines-apart lines rest plain whole = up-to (length lines) lines rest (le_refl (length lines)) plain whole
 
--- the lines of a text, cut behind some of them or behind them all
+-- the lines of a text, cut after some of them or after all of them
 pub parted : (text front behind : List ℕ) → text ≡ front ++ behind → is_plain front ≡ true → (0 < length behind → are_whole_lines front ≡ true) →
     numbered (records default_config text) ≡ numbered (records default_config front) ++ numbered (records default_config behind)
 unfolding rows
@@ -75,9 +75,9 @@ parted text front [] parts plain whole =
     ap rows (parts ∙ append-nil front) ∙ sym (append-nil (rows front)) ∙ ap (λ (l : List Fields). rows front ++ l) (sym (none-left [] refl))
 parted text front (b ∷ behind) parts plain whole = ap rows parts ∙ lines-apart front (b ∷ behind) plain (whole (omega arith))
 
--- ---- behind a line end, and at the start of a file
+-- ---- after a line end, and at the start of a file
 
--- a line end at the front is no record, and what stands behind it has no byte order mark
+-- a line end at the front is not a record, and what comes after it has no byte order mark
 pub behind-feed : (rest : List ℕ) → numbered (records_of (10 ∷ rest)) ≡ numbered (records default_config rest)
 behind-feed rest =
     let none : numbered (records default_config (10 ∷ [])) ≡ [] = line-step (10 ∷ []) refl ∙ line-blank (fields_in (10 ∷ [])) (records default_config []) refl ∙ none-left [] refl in
@@ -93,7 +93,7 @@ whole-append [] b lines h = h
 whole-append (a ∷ []) b lines h = h
 whole-append (a ∷ next ∷ text) b lines h = whole-append (next ∷ text) b lines h
 
--- at the start there may be a byte order mark, which is no part of the first line
+-- at the start there may be a byte order mark, which is not part of the first line
 pub at-start : (a b c : ℕ) (text rest : List ℕ) → let front = a ∷ b ∷ c ∷ text in
     are_whole_lines front ≡ true → is_plain (without_mark front) ≡ true → (length (without_mark front) == 0) ≡ false →
     numbered_records (front ++ rest) ≡ numbered (records default_config (without_mark front)) ++ numbered (records default_config rest)

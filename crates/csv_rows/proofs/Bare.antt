@@ -1,4 +1,4 @@
--- Fields without a blank, which are what is left when the blanks round them are taken off.
+-- Fields without a blank, which are what is left when the blanks around them are removed.
 use Rattle.std.proofs.Common.{◌≡◌, ◌∙◌, ◌||◌, ◌==◌, ◌∷◌, [], ℕ, zero, suc, Bool, true, false, List, take, refl, sym, ap, arith, inl, inr}
 use Rattle.std.specs.Prelude.{nat_lt, slice_index}
 use Rattle.std.proofs.lemmas.Bool.{cases_Bool, false≢true, ne_eqb}
@@ -13,7 +13,7 @@ or-false true y h = absurd cc
 other : (b n : ℕ) → nat_lt n 33 ≡ true → nat_lt b 33 ≡ false → (b == n) ≡ false
 other b n low high = ne_eqb b n (λ e. false≢true (sym high ∙ ap (λ m. nat_lt m 33) e ∙ low))
 
--- what is no stop is no blank, and ends no field
+-- what isn't a stop isn't a blank, and ends no field
 
 no-blank : (b : ℕ) → is_stop b ≡ false → is_blank b ≡ false
 no-blank b h =

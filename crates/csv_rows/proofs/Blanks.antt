@@ -1,4 +1,4 @@
--- The fields of a line, byte after byte: whether they are a blank record, and how many they are.
+-- The fields of a line, byte by byte: whether they are a blank record, and the number of them.
 use Rattle.std.proofs.Common.{◌≡◌, ◌∙◌, ◌∷◌, ◌==◌, [], ℕ, Bool, true, false, List, length, refl, sym, ap, subst, arith, inl, inr}
 use Rattle.std.proofs.lemmas.Bool.{cases_Bool, eqb-true, ne_eqb, or_cases}
 use Rattle.csv_rows.specs.Rows.{Fields}
@@ -59,7 +59,7 @@ blank-none b text on h =
       | inr other ↦ rw (on, other) (ap (λ fields. is_blank_record (trimmed_fields (with_front (b ∷ []) fields))) more.same ∙ full b more.first more.others h)
     ]
 
--- ---- how many they are
+-- ---- the number of fields
 
 count-front : (b : ℕ) (fields : Fields) → length (with_front (b ∷ []) fields) ≡ length fields
 count-front b [] = refl

@@ -11,7 +11,7 @@ use native.Mathlib.Nat.{div-one, zero-div}
 use lib.Bits.{bit_or}
 use lib.Lanes.{zip2, mask_l, top}
 
--- what a lane holds where it is compared with a byte
+-- what a lane holds when it is compared with a byte
 abbrev hit : ℕ → ℕ → ℕ
 hit x b = cond (eqb x b) 255 0
 
@@ -23,7 +23,7 @@ each : (f : ℕ → ℕ) (test : ℕ → Bool) → ((x : ℕ) → top 7 (f x) �
 each f test h [] = refl
 each f test h (x ∷ v) = ap₂ (λ b bs. b ∷ bs) (h x) (each f test h v)
 
--- the marks of lanes that tell of a test
+-- the marks of lanes that report a test
 marks : (f : ℕ → ℕ) (test : ℕ → Bool) → ((x : ℕ) → top 7 (f x) ≡ test x) → (v z : List ℕ) → length v ≤ 64 → z ≡ map f v →
     mask_l (map (top 7) z) % 2 ^ 64 ≡ mask_l (map test v)
 marks f test h v z few e =
@@ -62,7 +62,7 @@ first-three a b c n v long few =
     (marks (λ x. bit_or (bit_or (hit x a) (hit x b)) (hit x c)) (is_byte3 a b c) (λ x. three (eqb x a) (eqb x b) (eqb x c)) v _ (omega (arith, long, few)) lanes)
     ∙ first_set_mask_l (is_byte3 a b c) v n long few
 
--- what a lane holds where it is compared with a byte above it
+-- what a lane holds when it is compared with a byte above it
 abbrev low : ℕ → ℕ → ℕ
 low x b = cond (ltb x b) 255 0
 
@@ -100,7 +100,7 @@ module _ (test : ℕ → Bool) (text : List ℕ) (from n seen : ℕ) (room : fro
     run_in_chunk_stops test text from n seen 0 room counted short,
   )
 
-  -- where all were seen, none passes up to their end
+  -- if all were seen, none passes up to their end
   pub seen-all : (end : ℕ) → end ≡ from + n → (seen < n → ⊥) → Nowhere (Passes test text) 0 end
   seen-all end e all =
       let same : from + seen ≡ end = omega (arith, e, all, run_in_chunk_le test text from n seen 0 room counted) in

@@ -1,4 +1,4 @@
--- Numbers that are written in digits.
+-- Numbers written in digits.
 use Rattle.std.proofs.Common.{◌≡◌, ◌&&◌, ◌==◌, ◌<◌, ◌≤◌, ◌^◌, ℕ, zero, suc, List, [], ◌∷◌, Bool, true, false, Result, Ok, length, nat_le, refl, arith, rules, leb-true}
 use Rattle.std.specs.Char.{is_ascii_digit}
 use Rattle.std.specs.List.{list_all}

@@ -11,7 +11,7 @@ use Rattle.csv_rows.specs.Pieces.{AtHand, IsBehind, StandApart, text_of}
 use Rattle.csv_rows.proofs.Apart.{at-start, behind-feed, whole-append}
 use Rattle.csv_rows.proofs.Plain.{plain-parted, plain-records}
 
--- a piece more
+-- one more piece
 pub taken : (text piece : List ℕ) (given : List Fields) (old new : AtHand) → text_of new ≡ text_of old ++ piece →
     (are_whole_lines old.lines ≡ true → are_whole_lines new.lines ≡ true) → (is_unended old.last ≡ true → is_unended new.last ≡ true) →
     IsBehind text given old → IsBehind (text ++ piece) given new
@@ -48,7 +48,7 @@ apart (a ∷ b ∷ c ∷ text) long plain some = λ whole rest.
     never true h = absurd (h refl)
     never false h = refl
 
--- the last line goes on
+-- the last line continues
 pub still-unended : (last more : List ℕ) → is_unended more ≡ true → is_unended last ≡ true → is_unended (last ++ more) ≡ true
 still-unended [] more h g = h
 still-unended (b ∷ last) more h g = by (is_line_end b) g (still-unended last more h) where

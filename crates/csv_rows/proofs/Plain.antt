@@ -1,4 +1,4 @@
--- The records of a plain text are its lines, parted at commas.
+-- The records of a plain text are its lines, separated at commas.
 use Rattle.std.proofs.Common.{le_refl, ap₂, ◌≡◌, ◌≤◌, ◌<◌, ◌+◌, ◌∙◌, ◌∷◌, ◌++◌, ◌==◌, [], ℕ, Bool, true, false, List, Option, Some, None, length, refl, sym, ap, subst, arith, inl, inr, append_assoc}
 use Rattle.std.specs.Prelude.{◌&&◌, ◌||◌, if◌then◌else◌, not}
 use Rattle.std.specs.List.{list_any}
@@ -19,7 +19,7 @@ or-false : (x y : Bool) → (x || y) ≡ false → (x ≡ false) × (y ≡ false
 or-false false y h = (refl, h)
 or-false true y h = absurd cc
 
--- ---- a plain text, byte after byte
+-- ---- a plain text, byte by byte
 
 pub plain-parts : (b : ℕ) (text : List ℕ) → is_plain (b ∷ text) ≡ true → ((b == 34) ≡ false) × ((b == 239) ≡ false) × (is_plain text ≡ true)
 plain-parts b text h =
@@ -56,7 +56,7 @@ plain-behind (b ∷ text) h =
 
 -- ---- a text whose first line is plain
 
--- up to the end of its first line a text has no odd byte
+-- up to the end of its first line, a text has no odd byte
 abbrev pub is_plain_line : List ℕ → Bool
 is_plain_line [] = true
 is_plain_line (b ∷ text) = if is_line_end b then true else (not (is_odd_byte b) && is_plain_line text)
@@ -98,7 +98,7 @@ plain-line (b ∷ text) h =
 
 -- ---- what the machine does in a line
 
--- the state behind the end of the first line
+-- the state after the end of the first line
 state_behind : List ℕ → State
 state_behind [] = st.StartRecord
 state_behind (b ∷ text) = if is_line_end b then after_end term.CRLF b else state_behind text
@@ -130,7 +130,7 @@ front-more field b (first ∷ fields) = ap (λ f. f ∷ fields) (append_assoc fi
 abbrev read_line : Fields → List ℕ → Option Read
 read_line fields text = Some (fields, state_behind text, behind_line text)
 
--- what is read of a line, from within the field at hand
+-- what is read of a line, from within the current field
 reads : (fields : Fields) (field text : List ℕ) → is_plain_line text ≡ true →
     next_record default_config st.InField fields field text ≡ read_line (fields ++ with_front field (fields_in text)) text
 unfolding next_record state_behind
@@ -152,7 +152,7 @@ reads fields field (b ∷ text) h =
       ]
     ]
 
--- ---- between two records it is all one whether a carriage return stood before
+-- ---- between two records, it doesn't matter whether a carriage return came before
 
 after-cr : (text : List ℕ) → next_record default_config st.AfterCr [] [] text ≡ next_record default_config st.StartRecord [] [] text
 unfolding next_record
@@ -184,7 +184,7 @@ same-records s t xs ys e f h = by (next_record default_config t [] [] ys) refl w
   by None n = records-none default_config s xs (h ∙ n) ∙ sym (records-none default_config t ys n)
   by (Some p) n = records-some default_config s xs p e (h ∙ n) ∙ sym (records-some default_config t ys p f n)
 
--- ---- the records of a text, line after line
+-- ---- the records of a text, line by line
 
 skips-end : (b : ℕ) (text : List ℕ) → is_line_end b ≡ true →
     next_record default_config st.StartRecord [] [] (b ∷ text) ≡ next_record default_config st.StartRecord [] [] text
@@ -196,7 +196,7 @@ starts : (b : ℕ) (text : List ℕ) → is_line_end b ≡ false →
 unfolding next_record
 starts b text on = rw on refl
 
--- an empty line is no record, and would have no number
+-- an empty line isn't a record, and would have no number
 pub line-step : (text : List ℕ) → is_plain_line text ≡ true →
     numbered (records default_config text) ≡ numbered (fields_in text ∷ records default_config (behind_line text))
 line-step [] h = refl
@@ -225,7 +225,7 @@ unmarked (b ∷ text) h = unmarked-first b text (plain-parts b text h).1
 pub plain-records : (text : List ℕ) → is_plain text ≡ true → records_of text ≡ records default_config text
 plain-records text h = ap (records default_config) (unmarked text h)
 
--- what stands behind a line is shorter
+-- what comes after a line is shorter
 behind-le : (text : List ℕ) → length (behind_line text) ≤ length text
 behind-le [] = le_refl 0
 behind-le (b ∷ text) = by (is_line_end b) (behind-le text) where

@@ -1,4 +1,4 @@
--- What one read takes off the records that a reader has left.
+-- What one read takes from the records that a reader has left.
 use Rattle.std.proofs.Common.{inl, Bor, Bool, true, false, ℕ, zero, suc, ◌≡◌, ◌+◌, ◌-◌, ◌<◌, ◌≤◌, List, [], ◌∷◌, ◌++◌, Option, Some, None, length, refl, sym, ap, ◌∙◌, arith}
 use Rattle.std.proofs.lemmas.Bool.{false≢true}
 use Rattle.std.specs.Prelude.{◌==◌, if◌then◌else◌, IfSome, IsSome}
@@ -14,7 +14,7 @@ use Rattle.csv.specs.declared.parser.Terminator.TheVariants as term
 use Rattle.csv.specs.declared.reader.Reader.{Reader}
 use Rattle.csv_rows.specs.Rows.{Fields, IsBetweenRecords, bytes_left, records_after}
 
--- ---- where a record ends, the machine stands between two records
+-- ---- where a record ends, the machine is between two records
 
 record Stops (r : State × Action) : Type 0 where
   at : is_end r.1 ≡ true → ends_at_end r.0 ≡ false
@@ -58,9 +58,9 @@ stops-step cfg st.AfterQuote c = stops_if _ _ _ (goes_on st.InQuoted act.Copy re
 stops-step cfg st.InComment c = stops_if _ _ _ (goes_on st.StartRecord act.Skip refl) (goes_on st.InComment act.Skip refl)
 stops-step cfg st.AfterCr c = stops_if _ _ _ (goes_on st.StartRecord act.Skip refl) (stops-start_record cfg c)
 
--- ---- a record takes at least a byte
+-- ---- a record takes at least one byte
 
--- after it the machine stands between two records, and so many bytes are left at most
+-- after it the machine is between two records, and at most this many bytes are left
 abbrev Leaves : ℕ → Option Read → Type 0
 Leaves n o = IfSome o (λ p. (ends_at_end p.1 ≡ false) × (length p.2 ≤ n))
 
@@ -94,7 +94,7 @@ follows cfg s (c ∷ rest) p e h =
     let l = rw h at (leaves cfg s [] [] (c ∷ rest)) in
     record { between = l.0; shorter = omega (arith, l.1) }
 
--- ---- the records of a text, one after the other
+-- ---- the records of a text, in order
 
 enough : (cfg : Config) (n m : ℕ) (s : State) (xs : List ℕ) → ends_at_end s ≡ false → length xs < n → length xs < m →
     records_from cfg n s xs ≡ records_from cfg m s xs

@@ -16,7 +16,7 @@ whole-up-to (b ∷ text) zero within here = here
 whole-up-to (b ∷ []) (suc end) within here = absurd (omega (arith, within))
 whole-up-to (b ∷ next ∷ text) (suc end) within here = whole-up-to (next ∷ text) end (omega (arith, within)) here
 
--- a line ends in what is cut off
+-- a line ends within what is cut off
 pub whole-from : (text : List ℕ) (from end : ℕ) → end < length (drop from text) → Passes (is_byte2 13 10) (drop from text) end →
     are_whole_lines (take (from + end + 1) text) ≡ true
 whole-from text from end within here =

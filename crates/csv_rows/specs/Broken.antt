@@ -3,7 +3,8 @@ use Rattle.std.specs.Prelude.{◌≡◌, ◌<◌, ℕ, List, take, Option, Some,
 use Rattle.std.specs.List.{slice_get}
 use Rattle.csv_rows.specs.Rows.{Fields}
 
--- of these rows the one at place k breaks this rule, and none before it breaks any; `broken` is the rule that one breaks after others
+-- of these rows, the one at place k breaks this rule, and none before it breaks any; `broken` is the rule that a row breaks after the ones
+-- before it
 pub record IsFirstBroken
     {Rule : Type 0} (broken : List Fields → Fields → Option Rule) (rows : List Fields) (k : ℕ)
     (rule : Rule)

@@ -1,9 +1,9 @@
--- The records that have a number, and their fields without the blanks round them.
+-- The records that have a number, and their fields without the blanks around them.
 use Rattle.std.specs.Prelude.{ℕ, Bool, false, not, ◌||◌, ◌==◌, nat_eq, if◌then◌else◌, List, [], ◌∷◌, map, filter, drop, length}
 use Rattle.std.specs.List.{list_all, starts_with}
 use Rattle.csv_rows.specs.Rows.{Fields, records_of}
 
--- ---- the blanks round a field are taken off
+-- ---- the blanks around a field are removed
 
 -- a space or a tab
 abbrev pub is_blank : ℕ → Bool
@@ -34,7 +34,7 @@ is_blank_record (field ∷ next ∷ rest) = false
 abbrev pub numbered : List Fields → List Fields
 numbered records = filter (λ fields. not (is_blank_record fields)) (map trimmed_fields records)
 
--- ---- one byte order mark is no part of a file
+-- ---- one byte order mark is not part of a file
 
 abbrev pub byte_order_mark : List ℕ
 byte_order_mark = 0xEF ∷ 0xBB ∷ 0xBF ∷ []

@@ -5,7 +5,7 @@ use Rattle.std.specs.List.{prefix_len}
 use Rattle.std.specs.Simd.Lanes.{mask_l}
 use Rattle.memchr.specs.Find.{NoneBefore, Passes, is_byte3}
 
--- how many come before the first that passes a test
+-- the number of bytes that come before the first that passes a test
 abbrev pub before_first : (ℕ → Bool) → List ℕ → ℕ
 before_first test bytes = prefix_len (λ b. not (test b)) bytes
 
@@ -15,15 +15,15 @@ first_set marks lanes = if marks == 0 then lanes else trailing_zeros w64 marks
 
 -- ---- the marks by which the fields of a line are cut
 
--- a byte that is not above a space: the line ends are among these, and the blanks
+-- a byte that is not above a space; the line ends and the blanks are among these
 abbrev pub is_low : ℕ → Bool
 is_low b = nat_lt b 0x21
 
--- a comma, a line end or a similar byte: all that end a field are among these
+-- a comma, a line end or a similar byte; all bytes that end a field are among these
 abbrev pub is_stop : ℕ → Bool
 is_stop b = (b == 0x2C) || is_low b
 
--- a bit for each of the first bytes of a text, set if it is a stop; how many were looked at is unknown
+-- a bit for each of the first bytes of a text, set if the byte is a stop; the number of bytes that were looked at is unknown
 pub record AreMarks (marks : ℕ) (text : List ℕ) : Type 0 where
   pub looked : ℕ
   pub few : looked ≤ 64

@@ -15,12 +15,12 @@ is_plain text = not (list_any is_odd_byte text)
 abbrev pub is_line_end : ℕ → Bool
 is_line_end b = (b == 0x0D) || (b == 0x0A)
 
--- the fields, the first of which has these bytes in front
+-- the fields, with these bytes in front of the first
 abbrev pub with_front : List ℕ → Fields → Fields
 with_front bytes [] = []
 with_front bytes (field ∷ fields) = (bytes ++ field) ∷ fields
 
--- the fields of the first line of a text: what its commas part
+-- the fields of the first line of a text, which its commas separate
 abbrev pub fields_in : List ℕ → Fields
 fields_in [] = [] ∷ []
 fields_in (b ∷ text) =
@@ -39,7 +39,7 @@ are_whole_lines [] = true
 are_whole_lines (b ∷ []) = is_line_end b
 are_whole_lines (b ∷ next ∷ text) = are_whole_lines (next ∷ text)
 
--- no line ends in it
+-- no line ends in the text
 abbrev pub is_unended : List ℕ → Bool
 is_unended text = not (list_any is_line_end text)
 

@@ -14,7 +14,7 @@ Fields = List (List ℕ)
 abbrev pub records_of : List ℕ → List Fields
 records_of text = records default_config (strip_bom text)
 
--- ---- a reader that stands between two records of a text
+-- ---- a reader that is between two records of a text
 
 abbrev pub bytes_left : Reader (Bor (List ℕ)) → Option (List ℕ)
 bytes_left reader = source_of (λ text. Some text.now) reader
@@ -35,7 +35,7 @@ pub record IsBetweenRecords (reader : Reader (Bor (List ℕ))) : Type 0 where
   pub between : ends_at_end (reader_state reader) ≡ false
   pub known : IsSome (bytes_left reader)
 
--- ---- records one after the other
+-- ---- records in order
 
 -- the record that was read last, and those that are still to be read
 pub record Reading : Type 0 where

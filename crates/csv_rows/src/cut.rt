@@ -1,4 +1,4 @@
-// The fields of a line, cut off one after the other without the blanks round them.
+// The fields of a line, cut off in order, without the blanks around them.
 ghost use Rattle.std.specs.Prelude.{◌≡◌, ◌+◌, ◌∷◌, IfSome, drop, take};
 ghost use Rattle.csv_rows.specs.Fields.{trimmed_fields};
 ghost use Rattle.csv_rows.specs.Lanes.{AreMarks, IsBareEnd};
@@ -24,7 +24,7 @@ pub fn bare_end(text: &[u8], marks: u64) -> Option<usize>
     Some(end)
 }
 
-/// The text after the comma that ends the first field, if one does, if the field has no blanks and ends at this place.
+/// The text after the comma that ends the first field, if one does, for a field that has no blanks and ends at this place.
 #[inline(always)]
 pub fn behind_bare(text: &[u8], end: usize) -> Option<&[u8]>
     requires { IsBareEnd text.now end }

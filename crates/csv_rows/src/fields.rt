@@ -1,4 +1,4 @@
-// The fields of a record, one after the other.
+// The fields of a record, in order.
 ghost use Rattle.std.specs.Prelude.{◌≡◌, length};
 ghost use Rattle.std.specs.Iterator.{YieldsFirstRef, item_count};
 ghost use Rattle.csv.specs.Records.{fields_of};
@@ -14,13 +14,13 @@ use std::marker::Model;
 /// The places of fields.
 #[derive(Drop)]
 pub enum Place<'r> {
-    /// In a record that `csv` read.
+    /// The places of fields in a record that `csv` read.
     Record(RecordFields<'r>),
-    /// In a line of a plain text.
+    /// The places of fields in a line of a plain text.
     Line(LineFields<'r>),
 }
 
-/// The fields of a record that are still to come, without the spaces and tabs round them.
+/// The fields of a record that are still to come, without the spaces and tabs around them.
 #[derive(Drop)]
 pub struct Fields<'r> {
     place: Place<'r>,
@@ -55,7 +55,7 @@ impl<'r> Fields<'r> {
         }
     }
 
-    /// How many are still to come.
+    /// The number of fields that are still to come.
     pub fn len(&self) -> usize
         ensures { result ≡ length self.now }
     {

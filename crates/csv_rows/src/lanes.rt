@@ -1,4 +1,4 @@
-// Bytes next to each other: how many of them come before the first that ends a field, or a line.
+// Adjacent bytes: the number that come before the first that ends a field, or a line.
 ghost use Rattle.std.specs.Prelude.{◌≡◌, ◌+◌, ◌≤◌, length, take, drop};
 ghost use Rattle.memchr.specs.Find.{is_byte2, is_byte3};
 ghost use Rattle.csv_rows.specs.Lanes.{before_first, first_set};
@@ -6,13 +6,13 @@ ghost use Rattle.csv_rows.specs.Lanes.{before_first, first_set};
 use crate::lines::{CARRIAGE_RETURN, COMMA, LINE_FEED};
 use std::simd::prelude::*;
 
-/// This many bytes are looked at at once to find the end of a field.
+/// The number of bytes that are examined at once to find the end of a field.
 pub const FIELD_LANES: usize = 16;
 
-/// This many to find the end of a line: most lines end within one look.
+/// The number of bytes that are examined at once to find the end of a line. Most lines end within one look.
 pub const LINE_LANES: usize = 64;
 
-/// The place of the lowest bit that is set, or `lanes` if none is.
+/// The place of the lowest bit that is set, or `lanes` if no bit is set.
 #[inline(always)]
 pub fn first_set(marks: u64, lanes: usize) -> usize
     ensures { result ≡ first_set marks lanes }
@@ -23,7 +23,7 @@ pub fn first_set(marks: u64, lanes: usize) -> usize
     marks.trailing_zeros() as usize
 }
 
-/// How many of the `FIELD_LANES` bytes from a place on come before the first that ends a field.
+/// The number of the `FIELD_LANES` bytes from a place on that come before the first that ends a field.
 #[inline(always)]
 pub fn bytes_in_field(text: &[u8], at: usize) -> usize
     requires { at + FIELD_LANES ≤ length text.now }
@@ -36,7 +36,7 @@ pub fn bytes_in_field(text: &[u8], at: usize) -> usize
     first_set(ends.to_bitmask(), FIELD_LANES)
 }
 
-/// How many of the `LINE_LANES` bytes from a place on come before the first that ends a line.
+/// The number of the `LINE_LANES` bytes from a place on that come before the first that ends a line.
 #[inline(always)]
 pub fn bytes_in_line(text: &[u8], at: usize) -> usize
     requires { at + LINE_LANES ≤ length text.now }

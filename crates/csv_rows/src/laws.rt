@@ -2,7 +2,7 @@
 ghost use Rattle.std.specs.Prelude.{◌≡◌};
 ghost use Rattle.csv_rows.specs.declared.pieces.TheConstants as limit;
 
-/// The number of the limit.
+/// The value of the limit.
 pub fn limits()
     ensures most_at_hand { limit.MOST_AT_HAND ≡ 8388608 }
 {}

@@ -1,5 +1,5 @@
-//! Files of comma-separated records as the suite reads them: without a byte order mark, blank records passed over, and no
-//! blanks round a field.
+//! Files of comma-separated records as the suite reads them: without a byte order mark, with blank records skipped, and without blanks
+//! around a field.
 #![tactic(auto)]
 
 mod cut;

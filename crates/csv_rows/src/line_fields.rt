@@ -10,12 +10,12 @@ use crate::lines::field_count;
 use crate::stops::{marks_behind, marks_of};
 use std::marker::Model;
 
-/// The fields of a line that are still to come, without the spaces and tabs round them.
+/// The fields of a line that are still to come, without the spaces and tabs around them.
 #[derive(Drop)]
 pub struct LineFields<'t> {
-    // The text from the next field on. None if the last field had no comma after it.
+    // The text from the next field on, or `None` if the last field had no comma after it.
     left: Option<&'t [u8]>,
-    // Which of its first bytes are stops, as far as they were looked at.
+    // The stops among the first bytes of the text, as far as these were looked at.
     marks: u64,
 }
 
@@ -45,7 +45,7 @@ impl<'t> LineFields<'t> {
         }
     }
 
-    /// How many are still to come.
+    /// The number of fields that are still to come.
     pub fn len(&self) -> usize
         ensures { result ≡ length self.now }
     {
@@ -76,7 +76,7 @@ impl<'t> Iterator for LineFields<'t> {
                 Some(&text[..end])
             }
             None => {
-                // Copies are lent, so that `left` and `marks` themselves may stay in registers.
+                // Copies are lent, so that `left` and `marks` themselves can stay in registers.
                 let (mut left, mut marks) = (self.left, self.marks);
                 let field = cut_any(text, &mut left, &mut marks);
                 self.left = left;

@@ -1,4 +1,4 @@
-// The lines of a plain text. Nothing of them is copied.
+// The lines of a plain text. None of it is copied.
 ghost use Rattle.std.specs.Prelude.{◌≡◌, ◌+◌, ◌<◌, ◌≤◌, ◌∷◌, ◌++◌, IfSome, IsTrue, drop, length};
 ghost use Rattle.memchr.specs.Find.{IsFirstByte, Nowhere, Passes, is_byte2, is_byte3};
 ghost use Rattle.csv_rows.specs.Fields.{is_blank_record, trimmed_fields};
@@ -105,7 +105,7 @@ pub fn whole_lines(text: &[u8]) -> (&[u8], &[u8])
     }
 }
 
-/// The lines of a text up to the end of the one that byte `at` is in, and what comes after that end.
+/// The lines of a text up to the end of the line that byte `at` is in, and what comes after that end.
 pub fn lines_up_to(text: &[u8], at: usize) -> (&[u8], &[u8])
     ensures parts { text.now ≡ result.0.now ++ result.1.now }
     ensures whole { 0 < length result.1.now → IsTrue (are_whole_lines result.0.now) }
@@ -163,7 +163,7 @@ pub fn is_blank_line(text: &[u8]) -> bool
     true
 }
 
-/// How many fields the first line of a text has.
+/// The number of fields in the first line of a text.
 pub fn field_count(text: &[u8]) -> usize
     ensures { result ≡ length (fields_in text.now) }
 {

@@ -12,7 +12,7 @@ fn are_digits(text: &[u8]) -> bool
     text.iter().all(|b| b.is_ascii_digit())
 }
 
-/// The number that is written in 1 to `MOST_NUMBER_DIGITS` digits, leading zeros allowed; none if the text is anything other than that.
+/// The number that is written in 1 to `MOST_NUMBER_DIGITS` digits, with leading zeros allowed, or none if the text is anything else.
 pub fn number_of(text: &[u8]) -> Option<u64>
     ensures { result ≡ number_of text.now }
 {

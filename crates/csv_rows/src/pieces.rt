@@ -11,19 +11,19 @@ use irv_base::Memory;
 use std::alloc::Global;
 use std::marker::Model;
 
-/// How many bytes of whole lines are looked at, at most. If more are at hand, they couldn't be passed on, and each piece would have those
-/// that aren't plain looked at again.
+/// At most this many bytes of whole lines are looked at. If more are available, they couldn't be passed on, and each piece would cause
+/// those that aren't plain to be looked at again.
 pub const MOST_AT_HAND: usize = 8 << 20;
 
-/// What is at hand of a text that comes in pieces: its whole lines, and the last line, of which more may come. Lines whose records are
-/// read are passed, so that a plain text need not be held whole.
+/// What is available of a text that comes in pieces: its whole lines, and the last line, which may still grow. Lines whose records have
+/// been read are passed, so a plain text need not be held whole.
 ///
-/// To a contract it is these two.
+/// To a contract, it is these two.
 #[derive(Drop)]
 pub struct Pieces {
     lines: Vec<u8>,
     last: Vec<u8>,
-    // how many bytes at the front of the lines were seen to be plain, when they came
+    // the number of bytes at the front of the lines that were seen to be plain when they came
     plain: usize,
 }
 
@@ -41,7 +41,7 @@ impl Model for Pieces {
 }
 
 impl Pieces {
-    /// A text of which nothing came yet.
+    /// A text of which nothing has come yet.
     pub fn new(alloc: Global) -> Pieces
         ensures { IsBehind [] [] result }
     {
@@ -70,7 +70,7 @@ impl Pieces {
         Ok(())
     }
 
-    // Looks whether the lines that came are plain, while they are near.
+    // Checks whether the lines that came are plain, while they are near.
     fn look(&mut self)
         ensures { self.new ≡ self.old }
     {
@@ -79,9 +79,8 @@ impl Pieces {
         }
     }
 
-    /// The whole lines, if what comes after these can't change their records: they have no double quote and no byte EF except that of a
-    /// byte order mark at their front, which would be whole. Lines with more than `MOST_AT_HAND` bytes in all aren't
-    /// looked at.
+    /// The whole lines, if what comes after them can't change their records: they have no double quote and no byte EF, except in a byte
+    /// order mark at their front, which must be whole. Lines with more than `MOST_AT_HAND` bytes in all aren't looked at.
     pub fn lines(&self) -> Option<PlainLines<'_>>
         ensures told { is_some result ≡ can_be_read self.now.lines }
         ensures some { IfSome result (λ _. 0 < length self.now.lines) }
@@ -101,14 +100,14 @@ impl Pieces {
         PlainLines::of(lines)
     }
 
-    /// How many bytes the whole lines have.
+    /// The number of bytes in the whole lines.
     pub fn held(&self) -> usize
         ensures { result ≡ length self.now.lines }
     {
         self.lines.len()
     }
 
-    /// The records of the whole lines are read: what comes after them is at hand.
+    /// Marks the records of the whole lines as read. What is available is then what comes after the lines.
     pub fn pass(&mut self)
         requires some { 0 < length self.old.lines }
         requires apart { StandApart self.old.lines }
@@ -121,7 +120,7 @@ impl Pieces {
         self.plain = 0;
     }
 
-    /// All that is at hand, when nothing more comes.
+    /// All that is available, when nothing more comes.
     pub fn into_text(self) -> Result<Vec<u8>, Memory>
         ensures { IfOk result (λ rest. (text : List ℕ) → (rows : List Fields)
             → IsBehind text rows self

@@ -1,4 +1,4 @@
-// The lines of a plain text, which can be parted.
+// The lines of a plain text, which can be divided.
 ghost use Rattle.std.specs.Prelude.{◌≡◌, ◌++◌, IfSome, IsTrue, is_some};
 ghost use Rattle.csv_rows.specs.Fields.{numbered};
 ghost use Rattle.csv_rows.specs.Lines.{is_plain};
@@ -8,9 +8,9 @@ use crate::lines::{is_plain, lines_up_to};
 use crate::records::Records;
 use std::marker::Model;
 
-/// Lines of a plain text: it has neither a double quote nor a byte EF. Nothing of them is copied.
+/// The lines of a plain text, which has neither a double quote nor a byte EF. None of the text is copied.
 ///
-/// To a contract they are the list of their numbered records.
+/// To a contract, they are the list of their numbered records.
 #[derive(Drop)]
 pub struct PlainLines<'t> {
     text: &'t [u8],
@@ -50,12 +50,12 @@ impl<'t> PlainLines<'t> {
         PlainLines { text }
     }
 
-    /// How many bytes they have.
+    /// The number of bytes in the lines.
     pub fn len(&self) -> usize {
         self.text.len()
     }
 
-    /// Those up to the end of the line that byte `at` is in, and those after.
+    /// The lines up to the end of the one that byte `at` is in, and the lines after.
     pub fn cut(&self, at: usize) -> (PlainLines<'t>, PlainLines<'t>)
         ensures { self.now ≡ result.0 ++ result.1 }
     {
@@ -63,7 +63,7 @@ impl<'t> PlainLines<'t> {
         (PlainLines { text: front }, PlainLines { text: behind })
     }
 
-    /// Their records, one after the other.
+    /// The records of the lines, in order.
     pub fn records(&self) -> Records<'t>
         ensures { result.left ≡ self.now }
     {

@@ -11,12 +11,12 @@ use crate::lines::is_blank_line;
 use crate::stops::cut_line;
 use std::marker::Model;
 
-/// The numbered records of a plain text, each a line of it.
+/// The numbered records of a plain text, each of which is a line.
 ///
-/// To a contract it is the record that was read last, and those that are still to be read.
+/// To a contract, this is the record that was read last, and the records that are still to be read.
 #[derive(Drop)]
 pub struct PlainRows<'t> {
-    // The text from the line on that was read last, and its marks.
+    // The text from the start of the line that was read last, and the marks of that text.
     row: &'t [u8],
     marks: u64,
     // The text that is still to be read.
@@ -41,7 +41,7 @@ impl<'t> Model for PlainRows<'t> {
     ghost invariant = { λ rows. IsTrue (is_plain rows.left.now) × AreMarks rows.marks rows.row.now };
 }
 
-// The text from the first line on that is no blank record, its marks, and what comes after the end of that line.
+// The text from the first line that isn't a blank record, its marks, and what comes after the end of that line.
 fn next_line(text: &[u8]) -> Option<(&[u8], u64, &[u8])>
     requires { IsTrue (is_plain text.now) }
     ensures first { IfSome result (λ next. numbered (records default_config text.now)

@@ -8,7 +8,7 @@ use crate::trim::trimmed;
 use csv::ByteRecord;
 use std::marker::Model;
 
-/// The fields of a record that are still to come, without the spaces and tabs round them.
+/// The fields of a record that are still to come, without the spaces and tabs around them.
 #[derive(Drop)]
 pub struct RecordFields<'r> {
     row: &'r ByteRecord,
@@ -34,7 +34,7 @@ impl<'r> RecordFields<'r> {
         RecordFields { row, at: 0 }
     }
 
-    /// How many are still to come.
+    /// The number of fields that are still to come.
     pub fn len(&self) -> usize
         ensures { result ≡ length self.now }
     {

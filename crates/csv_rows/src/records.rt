@@ -1,9 +1,9 @@
 // The numbered records of a text, plain or not.
 //
-// Without double quotes, commas and line ends are all that `csv` looks for. So each line that isn't empty is a record, and commas part
-// its fields: that is proved of the list that `csv` states. A byte EF counts like a quote, since `csv` removes a byte order mark of its
-// own. One look through the text decides which of the two reads it, so each rule is judged in one place. A quick pass that starts over
-// with `csv` in doubt would judge each rule twice.
+// Without double quotes, commas and line ends are all that `csv` looks for. So each line that isn't empty is a record, and commas separate
+// its fields; that is proved for the list that `csv` states. A byte EF counts like a quote, since `csv` itself removes a byte order mark.
+// One look through the text decides which of the two reads it, so each rule is judged in one place. A quick pass that starts over
+// with `csv` in case of doubt would judge each rule twice.
 ghost use Rattle.std.specs.Prelude.{◌≡◌, ◌∷◌, [], IfOk, IsTrue, if◌then◌else◌};
 ghost use Rattle.csv_rows.specs.Fields.{numbered};
 ghost use Rattle.csv_rows.specs.Lines.{is_plain};
@@ -20,16 +20,16 @@ use std::marker::Model;
 /// What records are read from.
 #[derive(Drop)]
 pub enum Source<'t> {
-    /// The lines of a plain text. Nothing is copied.
+    /// The lines of a plain text, none of which is copied.
     Plain(PlainRows<'t>),
-    /// What `csv` reads of any text.
+    /// What `csv` reads from any text.
     Csv(ReadRows<'t>),
 }
 
-/// The numbered records of a text, one after the other. If the text has neither a double quote nor a byte EF, they are read from its
-/// lines, and none of its bytes is copied; no clause says this.
+/// The numbered records of a text, in order. If the text has neither a double quote nor a byte EF, they are read from its lines, and none
+/// of its bytes is copied; no clause says this.
 ///
-/// To a contract it is the record that was read last, and those that are still to be read.
+/// To a contract, this is the record that was read last, and the records that are still to be read.
 #[derive(Drop)]
 pub struct Records<'t> {
     source: Source<'t>,

@@ -1,4 +1,4 @@
-// The records of a text of comma-separated fields, one after the other.
+// The records of a text of comma-separated fields, in order.
 ghost use Rattle.std.specs.Prelude.{◌≡◌, ◌∷◌, [], if◌then◌else◌, false, IfOk, OnErr};
 ghost use Rattle.csv.specs.Records.{fields_of};
 ghost use Rattle.csv_rows.specs.Rows.{records_of};
@@ -73,8 +73,8 @@ impl<'t> Rows<'t> {
         Ok(found)
     }
 
-    /// Reads the next record that has a number into the row, if there is one. Blank records, whose only field is empty without
-    /// its spaces and tabs, have none and are passed over.
+    /// Reads the next record that has a number into the row, if there is one. Blank records, whose only field is empty without its spaces
+    /// and tabs, have no number and are skipped.
     pub fn read_numbered(&mut self, row: &mut ByteRecord) -> Result<bool, Memory>
         ensures { IfOk result (λ found. numbered self.old
             ≡ (if found then trimmed_fields (fields_of row.new) ∷ numbered self.new else [])) }

@@ -1,6 +1,6 @@
-// The marks of a text: which of its first bytes end a field, or may be a blank; and what comes after its first line.
+// The marks of a text, which show which of its first bytes end a field or may be a blank; and what comes after its first line.
 //
-// One look at 64 bytes finds the commas and the bytes that aren't above a space. The first mark mostly ends the field, which then has no
+// One look at 64 bytes finds the commas and the bytes that aren't above a space. The first mark usually ends the field, which then has no
 // blank to remove, and the next marks are those of the next fields.
 ghost use Rattle.std.specs.Prelude.{ℕ, ◌≡◌, ◌+◌, ◌≤◌, List, length, map, take, drop};
 ghost use Rattle.std.specs.Simd.Lanes.{mask_l};
@@ -11,14 +11,14 @@ use crate::lanes::first_set;
 use crate::lines::{COMMA, behind_line, is_line_end};
 use std::simd::prelude::*;
 
-// This many bytes are looked at at once.
+// The number of bytes that are examined at once.
 const MARK_LANES: usize = 64;
 
 // The byte above a space
 const ABOVE_SPACE: u8 = b' ' + 1;
 
-// The marks of the first `MARK_LANES` bytes, and how many of these come before the first that isn't above a space: a blank, a line end or
-// another.
+// The marks of the first `MARK_LANES` bytes, and the number of these that come before the first that isn't above a space: a blank, a line
+// end or another such byte.
 #[inline(always)]
 fn marks_and_low(text: &[u8]) -> (u64, usize)
     requires { MARK_LANES ≤ length text.now }
@@ -31,7 +31,7 @@ fn marks_and_low(text: &[u8]) -> (u64, usize)
     (stops.to_bitmask(), first_set(low.to_bitmask(), MARK_LANES))
 }
 
-/// The marks of a text; none near its end.
+/// The marks of a text. There are none near its end.
 #[inline(always)]
 pub fn marks_of(text: &[u8]) -> u64
     ensures { AreMarks result text.now }
@@ -58,7 +58,7 @@ pub fn cut_line(text: &[u8]) -> (u64, &[u8])
     (marks, behind_line(text))
 }
 
-/// The marks of the rest of a text after its byte at `end`, from the marks of the text.
+/// The marks of the rest of a text after its byte at `end`, derived from the marks of the text.
 #[inline(always)]
 pub fn marks_behind(marks: u64, end: usize) -> u64
     ensures { (text : List ℕ) → AreMarks marks text → AreMarks result (drop (end + 1) text) }

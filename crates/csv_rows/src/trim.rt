@@ -1,4 +1,4 @@
-// Fields without the blanks round them.
+// Fields without the blanks around them.
 ghost use Rattle.std.specs.Prelude.{◌≡◌};
 ghost use Rattle.csv_rows.specs.Fields.{is_blank, trimmed_start, trimmed_end, trimmed};
 
@@ -32,7 +32,7 @@ fn trimmed_end(text: &[u8]) -> &[u8]
     &text[..0]
 }
 
-/// The field without the spaces and tabs round it.
+/// The field without the spaces and tabs around it.
 pub fn trimmed(field: &[u8]) -> &[u8]
     ensures { result.now ≡ trimmed field.now }
 {

@@ -1,4 +1,4 @@
--- As many NENs are in each list that covers as there is flow, and a flow that fills a cut is as much as steps leave.
+-- Each list that covers has at least as many NENs as the flow has units, and a flow that fills a cut has as many as steps leave the cut.
 use Rattle.std.proofs.Common.{◌≡◌, ℕ, ◌+◌, ◌<◌, ◌≤◌, ◌^◌, Bool, true, false, cond, not, ◌&&◌, ◌==◌, nat_lt, inl, inr, List, [], ◌∷◌, ◌++◌, filter, length, sum_by, count_by, refl, sym, ap, subst, arith, eq-eqb, eqb-true, ltb-true, lt-ltb, ◌∙◌}
 use Rattle.std.specs.List.{list_any, list_all}
 use Rattle.std.proofs.lemmas.Bool.{and_parts, and_from, and_left, both_ways, cases_Bool, cases_lt, not-true, not-false, not_from_true, not_from_false, false_from_ne_true}
@@ -42,7 +42,7 @@ module _ (n : ℕ) (records : List (List ℕ)) (floor : ℕ) where
       (subst (λ w. is_enough n records floor (Nen w l (more set c)) ≡ true) (eqb-true w c same)
       (subst (λ rest. is_enough n records floor (Nen w l rest) ≡ true) (sym (eqb-true (more set c) rest all)) e))
 
-  -- over what a list of them refutes flows at most one
+  -- at most one unit flows over a step that one of these assertions refutes
   pub refuted-one : (winner : ℕ) (flow : ℕ → ℕ → ℕ) → IsFlow n winner records floor flow → (set c : ℕ) → is_step n winner set c ≡ true →
       (a : Assertion) → is_enough n records floor a ≡ true → is_anew a set c ≡ true → flow set c ≤ 1
   refuted-one winner flow is set c can (Neb w l) e r = let z = is.none set c can (neb-bars w l set c e r) in omega (arith, z)
@@ -53,7 +53,7 @@ module _ (n : ℕ) (records : List (List ℕ)) (floor : ℕ) where
   neb-none winner flow is set c can (Neb w l) no' e r = is.none set c can (neb-bars w l set c e r)
   neb-none winner flow is set c can (Nen w l rest) no' e r = cc
 
--- a NEN refutes one step alone
+-- a NEN refutes only one step
 one-step : (a : Assertion) → is_nen a ≡ true → (x y : ℕ × ℕ) → Rises x y → is_anew a x.0 x.1 ≡ true → is_anew a y.0 y.1 ≡ false
 one-step (Neb w l) s x y r t = cc
 one-step (Nen w l rest) s x y r t =
@@ -82,7 +82,7 @@ module _ (n winner floor : ℕ) (records : List (List ℕ)) (flow : ℕ → ℕ 
     abbrev pub carriers : List (ℕ × ℕ)
     carriers = filter quits (steps n winner)
 
-    -- a step that leaves what is reached is refuted by one of the list
+    -- one of the list refutes a step that leaves what is reached
     by-one : (s : ℕ × ℕ) → Member s (steps n winner) → is_leaving (reached n winner list) s.0 s.1 ≡ true → list_any (λ a. is_anew a s.0 s.1) list ≡ true
     by-one s m out =
         not-false (list_any (λ a. is_anew a s.0 s.1) list)

@@ -1,4 +1,4 @@
--- Sums over a list of what passes a test.
+-- Sums, over a list, of what passes a test.
 use Rattle.std.proofs.Common.{◌≡◌, ℕ, ◌+◌, ◌≤◌, Bool, true, false, cond, ◌==◌, inl, inr, List, [], ◌∷◌, sum_by, refl, sym, ap, arith, eq-eqb, eqb-true, ne_eqb, ◌∙◌}
 use Rattle.std.proofs.lemmas.Bool.{cases_Bool, cases_eq, both_ways, false_from_ne_true}
 use Rattle.std.proofs.lemmas.List.Sums.{sum_by-cons}
@@ -53,7 +53,7 @@ module _ {X : Type 0} where
       let ih = sum-zero f xs (λ y m. h y (there m)) in
       omega (arith, b, e, ih)
 
-  -- where one element alone passes
+  -- if only one element passes
   pub sum-one : (p : X → Bool) (k : ℕ) (a : X) (xs : List X) → Distinct xs → Member a xs → p a ≡ true → ((x : X) → p x ≡ true → a ≡ x) →
       sum_by (λ x. cond (p x) k 0) xs ≡ k
   sum-one p k a [] d m t h = absurd (member_nil m)
@@ -76,7 +76,7 @@ module _ {X : Type 0} where
       ]
 
 module _ {X : Type 0} where
-  -- what is summed first by keys is summed at once
+  -- summing by keys first gives the same as summing at once
   pub sum-keys : (within : ℕ → Bool) (key : X → ℕ) (f : X → ℕ) (keys : List ℕ) (xs : List X) → Distinct keys →
       ((x : X) → Member x xs → Member (key x) keys) →
       sum_by (λ v. cond (within v) (sum_by (λ x. cond (key x == v) (f x) 0) xs) 0) keys ≡ sum_by (λ x. cond (within (key x)) (f x) 0) xs

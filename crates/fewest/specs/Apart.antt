@@ -1,4 +1,4 @@
--- Orders that each need a NEN of their own, and lists with the fewest NENs.
+-- Orders that each need their own NEN, and lists with the fewest NENs.
 use Rattle.std.specs.Prelude.{ℕ, ◌≤◌, List, Contains, AllPairs, IsTrue, IsFalse}
 use Rattle.std.specs.List.{list_all}
 use Rattle.assertions.specs.declared.assertion.Assertion.{Assertion}
@@ -6,13 +6,13 @@ use Rattle.assertions.specs.Refutation.{refutes, covers}
 use Rattle.assertions.specs.Suffixes.{IsAlternative}
 use Rattle.fewest.specs.Nens.{is_nen, nen_count, is_enough}
 
--- no NEN of the floor refutes both
+-- no NEN of the floor refutes both orders
 abbrev pub IsApart : ℕ → List (List ℕ) → ℕ → List ℕ → List ℕ → Type 0
 IsApart n records floor order other =
     (a : Assertion) → IsTrue (is_nen a) → IsTrue (is_enough n records floor a) →
     IsTrue (refutes a order) → IsFalse (refutes a other)
 
--- orders that elect other candidates, none of which a NEB of the floor refutes, and no two of which a NEN of the floor does
+-- orders that elect other candidates; no NEB of the floor refutes any of them, and no NEN of the floor refutes two of them
 pub record AreApart (n winner : ℕ) (records : List (List ℕ)) (floor : ℕ) (orders : List (List ℕ))
     : Type 0 where
   pub alternative : (order : List ℕ) → Contains orders order → IsAlternative n winner order
@@ -26,7 +26,7 @@ pub record IsComplete (n winner : ℕ) (records : List (List ℕ)) (floor : ℕ)
   pub enough : IsTrue (list_all (is_enough n records floor) list)
   pub covering : IsTrue (covers n winner list)
 
--- and no others that do have fewer NENs
+-- and no other list that does so has fewer NENs
 pub record HasFewest (n winner : ℕ) (records : List (List ℕ)) (floor : ℕ) (list : List Assertion)
     : Type 0 where
   pub complete : IsComplete n winner records floor list

@@ -8,7 +8,7 @@ use Rattle.fewest.specs.Cuts.{is_step, is_leaving, IsCut, CutsStanding}
 use Rattle.fewest.specs.Apart.{IsComplete, HasFewest}
 use Rattle.fewest.specs.Flows.{flow_over, flow_from, is_entering, IsKeptBut, IsFlow, IsFull, HasOneMore, value, leaving_count}
 
--- the value, and what enters a cut, is what leaves it
+-- the value, plus what enters a cut, equals what leaves it
 abbrev pub FlowLeaves : Type 0
 FlowLeaves =
     (n winner : ℕ) (flow : ℕ → ℕ → ℕ) (within : ℕ → Bool) → IsKeptBut n winner flow 0 →
@@ -23,14 +23,14 @@ FlowBounds =
     0 < n → IsFlow n winner records floor flow → IsComplete n winner records floor list →
     value n winner flow ≤ nen_count list
 
--- where nothing more can flow out of some sets, the value is the number of steps that leave them and that no NEB bars
+-- if nothing more can flow out of some sets, the value is the number of steps that leave the sets and that no NEB bars
 abbrev pub FullIsValue : Type 0
 FullIsValue =
     (n winner floor : ℕ) (records : List (List ℕ)) (flow : ℕ → ℕ → ℕ) (within : ℕ → Bool) →
     IsFlow n winner records floor flow → IsCut n within → IsFull n winner records floor flow within →
     value n winner flow ≡ leaving_count n winner records floor within
 
--- so a NEN for each of these steps, with the NEBs, has the fewest NENs
+-- so the list with the NEBs and a NEN for each of these steps has the fewest NENs
 abbrev pub FullIsFewest : Type 0
 FullIsFewest =
     (n winner floor : ℕ) (records : List (List ℕ)) (flow : ℕ → ℕ → ℕ) (within : ℕ → Bool)
@@ -40,7 +40,7 @@ FullIsFewest =
     nen_count (nebs ++ nens) ≤ leaving_count n winner records floor within →
     HasFewest n winner records floor (nebs ++ nens)
 
--- a unit goes on over a step
+-- a unit moves forward over a step
 abbrev pub UnitGoesOn : Type 0
 UnitGoesOn =
     (n winner set c : ℕ) (flow next : ℕ → ℕ → ℕ) → IsTrue (is_step n winner set c) →
@@ -49,7 +49,7 @@ UnitGoesOn =
     × ((from : ℕ) →
     flow_from n winner next from ≡ flow_from n winner flow from + (if set == from then 1 else 0))
 
--- or back over one that carries something
+-- or back over a step that carries something
 abbrev pub UnitGoesBack : Type 0
 UnitGoesBack =
     (n winner set c : ℕ) (flow next : ℕ → ℕ → ℕ) → IsTrue (is_step n winner set c) →

@@ -14,7 +14,7 @@ is_nen (Nen w l rest) = true
 abbrev pub is_new_nen : List Assertion → Assertion → Bool
 is_new_nen list a = is_nen a && not (list_any (λ b. is_same b a) list)
 
--- how many different NENs the list has
+-- the number of different NENs in the list
 abbrev pub nen_count : List Assertion → ℕ
 nen_count [] = 0
 nen_count (a ∷ list) = if is_new_nen list a then suc (nen_count list) else nen_count list

@@ -1,4 +1,4 @@
-//! Worked examples: the definitions at small contests, computed by the checker.
+//! Worked examples: the definitions for small contests, computed by the checker.
 ghost use Rattle.std.specs.Prelude.{◌≡◌, [], ◌∷◌, true, false, length};
 ghost use Rattle.std.specs.List.{list_all};
 ghost use Rattle.assertions.specs.Contests as contests;
@@ -17,8 +17,8 @@ pub fn counts()
         ≡ 2 }
 {}
 
-/// Five ballots 0, four 1,2 and three 2,1. The winner is 1, and the best margin 1: its NEB bars 2 from a set without 1,
-/// so one path is left, by 0, 1 and then 2, and the NEN of its second step cuts it.
+/// Five ballots are 0, four are 1,2 and three are 2,1. The winner is 1, and the best margin is 1. The NEB of that margin bars 2 from a set
+/// without 1, so one path is left, by 0, 1 and then 2. The NEN of its second step cuts it.
 pub fn three_candidates()
     ensures first { is_step 3 1 0 1 ≡ false }
     ensures all { length (steps 3 1) ≡ 11 }
@@ -34,8 +34,8 @@ pub fn three_candidates()
     ensures covering { covers 3 1 (Assertion.Neb 1 2 ∷ Assertion.Nen 1 0 3 ∷ []) ≡ true }
 {}
 
-/// Eight ballots of four candidates: the certificate has seven assertions, and four are enough. Three orders each need a
-/// NEN of their own; the one NEB of that margin refutes none of them.
+/// Eight ballots of four candidates. The certificate has seven assertions, but four are enough. Three orders each need a NEN of their own;
+/// the only NEB of that margin refutes none of them.
 pub fn four_candidates()
     ensures certificate { length (certificate_assertions 4 eight_ballots 2) ≡ 7 }
     ensures enough { list_all (is_enough 4 eight_ballots 1) fewest_of_eight ≡ true }

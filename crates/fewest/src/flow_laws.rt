@@ -2,7 +2,7 @@
 ghost use Rattle.fewest.specs.Growth.{MoveGrows, DrawGrows, StuckIsFull};
 ghost use Rattle.fewest.specs.FlowLaws.{FlowLeaves, FlowBounds, FullIsValue, FullIsFewest, UnitGoesOn, UnitGoesBack};
 
-/// The value, and what enters a cut, is what leaves it.
+/// The value, plus what enters a cut, equals what leaves it.
 pub fn flow_leaves()
     ensures { FlowLeaves }
 {}
@@ -12,37 +12,37 @@ pub fn flow_bounds()
     ensures { FlowBounds }
 {}
 
-/// If nothing more can flow out of some sets, the value is the number of steps that leave them and that no NEB bars.
+/// If nothing more can flow out of some sets, the value is the number of steps that leave the sets and that no NEB bars.
 pub fn full_is_value()
     ensures { FullIsValue }
 {}
 
-/// A NEN for each of these steps, with the NEBs, has the fewest NENs.
+/// The list with the NEBs and a NEN for each of these steps has the fewest NENs.
 pub fn full_is_fewest()
     ensures { FullIsFewest }
 {}
 
-/// A unit goes on over a step.
+/// A unit moves forward over a step.
 pub fn unit_goes_on()
     ensures { UnitGoesOn }
 {}
 
-/// A unit goes back over a step that carries something.
+/// A unit moves back over a step that carries something.
 pub fn unit_goes_back()
     ensures { UnitGoesBack }
 {}
 
-/// A unit that moves from nobody's set to that of all makes a flow of one more.
+/// A unit that moves from the empty set to the set of all makes a flow of one more.
 pub fn move_grows()
     ensures { MoveGrows }
 {}
 
-/// So does one that is drawn from the set of all back to nobody's.
+/// So does a unit that is drawn from the set of all back to the empty set.
 pub fn draw_grows()
     ensures { DrawGrows }
 {}
 
-/// If no unit can move on from some sets, they are full.
+/// If no unit can move on from some sets to another, nothing more can flow out of them.
 pub fn stuck_is_full()
     ensures { StuckIsFull }
 {}

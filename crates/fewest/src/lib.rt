@@ -1,9 +1,9 @@
-//! How few NENs can complete the NEBs of a contest.
+//! The smallest number of NENs that can complete the NEBs of a contest.
 //!
-//! Read backwards, an elimination order is a path of sets: it begins with nobody's set, and each step adds one candidate. A NEN refutes just
-//! the step to its set that adds its winner. So the NENs that complete given NEBs are a cut between nobody's set and that of all
-//! candidates, in the steps that the NEBs leave. What flows from the one to the other, at most one unit over a step that a NEN can refute,
-//! bounds the NENs of each such list from below.
+//! Read backwards, an elimination order is a path of sets: it begins with the empty set, and each step adds one candidate. A NEN refutes
+//! only the step to its set that adds its winner. So the NENs that complete given NEBs are a cut between the empty set and the set of all
+//! candidates, in the steps that the NEBs leave. A flow from the empty set to the set of all, with at most one unit over a step that a NEN
+//! can refute, is a lower bound on the number of NENs in each list that covers.
 #![tactic(auto)]
 
 pub mod examples;

@@ -46,7 +46,7 @@ module _ (n winner : ℕ) (records : List (List ℕ)) (floor : ℕ) (within : �
         subst (λ l. AreCutters n records floor l (claims ++ claim ∷ [])) (sym e)
         (zip-push (IsStepCutter n records floor) (so_far c) claims (set, c) claim are is)
 
-  -- one set more
+  -- one more set
   pub sets-more : (sets : List ℕ) (k : ℕ) → k < length sets →
       flat_map (cut_steps_from n winner records floor within) (take (k + 1) sets)
       ≡ flat_map (cut_steps_from n winner records floor within) (take k sets) ++ cut_steps_from n winner records floor within (get_or sets k 0)

@@ -1,4 +1,4 @@
--- There are no more NENs than steps that leave some sets and that no NEB bars.
+-- There are at most as many NENs as steps that leave some sets and that no NEB bars.
 use Rattle.std.proofs.Common.{◌≡◌, ◌≢◌, ℕ, ◌<◌, ◌≤◌, Bool, false, not, ◌&&◌, inl, inr, List, [], ◌∷◌, ◌++◌, filter, get_or, length, refl, sym, ap, subst, arith, ◌∙◌}
 use Rattle.std.proofs.lemmas.Bool.{and_parts, and_from, and_left, cases_Bool}
 use Rattle.std.specs.List.{list_any}

@@ -1,4 +1,4 @@
--- Which assertions are true with at least the floor.
+-- The assertions that are true with at least the floor.
 use Rattle.std.proofs.Common.{◌≡◌, ℕ, ◌<◌, ◌≤◌, ◌≢◌, max, true, false, ◌&&◌, nat_le, if◌then◌else◌, inl, inr, List, Some, None, is_some, sym, ap, ◌∙◌, arith, ltb-true, leb-true, lt-ltb, le-leb}
 use Rattle.std.proofs.lemmas.Bool.{and_parts, and_from, cases_Bool, false_from_ne_true}
 use Rattle.assertions.specs.declared.assertion.Assertion.{Assertion}

@@ -1,4 +1,4 @@
--- An order that walks by steps which no assertion of the floor refutes.
+-- An order that walks by steps that no assertion of the floor refutes.
 use Rattle.std.proofs.Common.{◌≡◌, ℕ, Bool, true, not, nat_lt, if◌then◌else◌, inl, inr, List, [], ◌∷◌, length, Some, Ok, Err, refl, ap, ◌∙◌}
 use Rattle.std.specs.List.{list_any}
 use Rattle.std.proofs.lemmas.Bool.{and_parts, and_from, both_ways, cases_Bool, not-true, not_from_false, false_from_ne_true}

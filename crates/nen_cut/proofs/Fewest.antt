@@ -1,4 +1,4 @@
--- The NEBs of a floor, with a NEN for each step that can be cut and that leaves the sets that a unit can come to, have the fewest NENs.
+-- The NEBs of a floor, with a NEN for each step that can be cut and that leaves the sets that a unit can reach, have the fewest NENs.
 use Rattle.std.proofs.Common.{◌≡◌, ◌≢◌, ℕ, ◌<◌, Bool, true, false, not, ◌&&◌, ◌==◌, inl, inr, List, ◌++◌, map, get_or, length, refl, sym, ap, subst, arith, eq-eqb, eqb-true, ◌∙◌}
 use Rattle.std.specs.List.{list_any, list_all}
 use Rattle.std.proofs.lemmas.Bool.{and_parts, and_from, both_ways, cases_Bool, not-true, not_from_true, not_from_false, false_from_ne_true}
@@ -77,7 +77,7 @@ module _ (n winner floor : ℕ) (records : List (List ℕ)) (flow : ℕ → ℕ 
       let (step, cutter) = zip-left (IsStepCutter n records floor) (cut_steps n winner records floor sets) claims claim are k in
       ap (is_enough n records floor) (sym e ∙ cutter.nen) ∙ cutter.strongest.enough
 
-  -- a step that leaves the sets and that no NEB bars can be cut, since a unit can't go on over it
+  -- a step that leaves the sets and that no NEB bars can be cut, since a unit can't move forward over it
   cuttable : (set c : ℕ) → is_step n winner set c ≡ true → is_leaving within set c ≡ true → is_barred n records floor set c ≡ false →
       is_cuttable n records floor set c ≡ true
   cuttable set c step leaves free =

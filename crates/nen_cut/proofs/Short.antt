@@ -1,4 +1,4 @@
--- The sets that stand beside the NEBs, walked up to those that lack somebody.
+-- The sets that the NEBs leave standing, walked up to those that lack a candidate.
 use Rattle.std.proofs.Common.{◌≡◌, ◌≢◌, ℕ, ◌^◌, ◌<◌, ◌≤◌, Bool, true, false, not, ◌&&◌, ◌==◌, nat_lt, if◌then◌else◌, inl, inr, List, [], ◌∷◌, length, Option, Some, None, Ok, Err, refl, sym, ap, arith, eq-eqb, ne_eqb, ltb-true, ltb-false, ◌∙◌}
 use Rattle.std.specs.List.{range_with_len}
 use Rattle.std.proofs.lemmas.Bool.{and_parts, both_ways, cases_Bool, not-true}
@@ -32,7 +32,7 @@ module _ (n winner : ℕ) (records : List (List ℕ)) (floor all : ℕ) (is-all 
   abbrev short : ℕ → ℕ → Bool
   short = passes_short n records floor all
 
-  -- no order walks: its last step comes to the set of all
+  -- no order walks, since its last step leads to the set of all
   not-whole : (order : List ℕ) → Member order (alternative_orders n winner) → 0 < n → walks short order ≡ true → ⊥
   not-whole [] m some w = absurd (all-not_none some (sym (set-of_order n winner [] m)))
     where

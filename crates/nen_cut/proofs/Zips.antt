@@ -1,4 +1,4 @@
--- Lists with an element for each of another list.
+-- Lists with one element for each element of another list.
 use Rattle.std.proofs.Common.{◌≡◌, ℕ, zero, suc, ◌<◌, get_or, inl, inr, List, [], ◌∷◌, ◌++◌, length, refl, subst, arith}
 use Rattle.std.specs.List.{AllZip}
 use Rattle.irv_base.proofs.Members.{Member, here, there, member_cases, member_nil}

@@ -21,7 +21,7 @@ abbrev pub cut_steps_from : ℕ → ℕ → List (List ℕ) → ℕ → (ℕ →
 cut_steps_from n winner records floor within set =
     map (λ c. (set, c)) (filter (is_cut n winner records floor within set) (candidates n))
 
--- from each of the sets
+-- these steps, from each of the sets
 abbrev pub cut_steps : ℕ → ℕ → List (List ℕ) → ℕ → List ℕ → List (ℕ × ℕ)
 cut_steps n winner records floor sets =
     flat_map (cut_steps_from n winner records floor (is_seen sets)) sets
@@ -33,7 +33,7 @@ pub record IsStepCutter (n : ℕ) (records : List (List ℕ)) (floor : ℕ) (ste
   pub nen : claim.assertion ≡ Nen step.1 loser (more step.0 step.1)
   pub strongest : IsStrongest n records floor step.1 (more step.0 step.1) loser claim.margin
 
--- the claims are of those of the steps, one of each
+-- the claims are those of the strongest NENs of the steps, one for each step
 abbrev pub AreCutters : ℕ → List (List ℕ) → ℕ → List (ℕ × ℕ) → List Claim → Type 0
 AreCutters n records floor = AllZip (IsStepCutter n records floor)
 
@@ -41,7 +41,7 @@ AreCutters n records floor = AllZip (IsStepCutter n records floor)
 abbrev pub IsStrongestNen : ℕ → List (List ℕ) → ℕ → Claim → Type 0
 IsStrongestNen n records floor claim = (step : ℕ × ℕ) × IsStepCutter n records floor step claim
 
--- the strongest NEN that refutes the step, if it is one of these
+-- the strongest NEN that refutes the step, if the step is one of these
 abbrev pub IsAcross : ℕ → ℕ → List (List ℕ) → ℕ → (ℕ → Bool) → ℕ → ℕ → Option Strongest → Type 0
 IsAcross n winner records floor within set c None =
     is_cut n winner records floor within set c ≡ false

@@ -2,7 +2,7 @@
 use Rattle.std.specs.Prelude.{ℕ, ◌-◌, ◌^◌, ◌<◌, ◌≤◌, List}
 use Rattle.nen_cut.specs.Floors.{sets_beside}
 
--- of nobody's set, that of the winner alone and that of all candidates, NEBs let none stand
+-- NEBs never leave the empty set, the set of only the winner or the set of all candidates standing
 abbrev pub SetsAreFew : Type 0
 SetsAreFew =
     (n winner floor : ℕ) (records : List (List ℕ)) → winner < n → 1 < n →

@@ -42,8 +42,8 @@ fn bars(ahead: &Ahead, w: Candidate, c: Candidate, with: CandSet, least: u32) ->
     margin_of(ahead, w, c, least).is_some()
 }
 
-/// Whether a true NEB of at least this margin refutes the step of the candidate from the set, that is, whether it is over the candidate,
-/// and its winner is outside the set with the candidate.
+/// Whether a true NEB of at least this margin refutes the step of the candidate from the set: whether it is over the candidate, and its
+/// winner is outside the set with the candidate.
 pub(crate) fn is_barred(ahead: &Ahead, n: u32, set: CandSet, c: Candidate, least: u32) -> bool
     requires same { n ≡ ahead.now.n }
     requires room { n ≤ ROOM }

@@ -1,4 +1,4 @@
-// The sets that the NEBs let stand.
+// The sets that the NEBs leave standing.
 ghost use Rattle.std.specs.Prelude.{◌≡◌, ◌<◌, ◌≤◌, ℕ, List, IfOk};
 ghost use Rattle.irv_base.specs.Candidates.{candidates, set_of};
 ghost use Rattle.set_tallies.specs.Bags.{IsOf};
@@ -11,7 +11,7 @@ use set_tallies::{Counted, Tallies};
 use set_walk::{Goes, WalkEnd, WalkFault, walk_within};
 use std::alloc::Global;
 
-/// The test of steps by the NEBs of at least a margin, up to sets that lack somebody.
+/// The test of steps by the NEBs of at least a margin, up to sets that lack a candidate.
 #[derive(Drop)]
 pub(crate) struct ByNebs<'t, 'b> {
     pub tallies: &'t Tallies<'b>,
@@ -36,7 +36,7 @@ impl<'t, 'b> Goes for ByNebs<'t, 'b> {
     }
 }
 
-/// Whether the NEBs of at least the margin let no more sets stand than this number.
+/// Whether the NEBs of at least the margin leave at most this many sets standing.
 pub(crate) fn is_within(
     alloc: Global,
     tallies: &Tallies<'_>,
@@ -59,7 +59,7 @@ pub(crate) fn is_within(
     match walk_within(alloc, &mut test, n, winner, sets) {
         Ok(end) => match end {
             WalkEnd::Ended(_seen) => Ok(true),
-            // No order walks, since no step comes to the set of all.
+            // No order walks, since no step leads to the set of all.
             WalkEnd::Found(_order) => Ok(true),
         },
         Err(fault) => match fault {
@@ -69,7 +69,7 @@ pub(crate) fn is_within(
     }
 }
 
-/// Whether the NEBs of at least the margin `least` let no more than `sets` sets stand.
+/// Whether the NEBs of at least the margin `least` leave at most `sets` sets standing.
 pub fn stand_within(
     alloc: Global,
     counted: &Counted,

@@ -11,7 +11,7 @@ use irv_base::{CandSet, Candidate, Memory};
 use set_flow::{Room, Steps};
 use set_tallies::Tallies;
 
-/// The steps of orders that elect another candidate than the winner, and which true assertions of at least a margin refute them.
+/// The steps of orders that elect a candidate other than the winner, and the true assertions of at least a margin that refute them.
 #[derive(Drop)]
 pub(crate) struct ByTallies<'b> {
     pub tallies: Tallies<'b>,
@@ -40,7 +40,7 @@ impl<'b> ByTallies<'b> {
         }
     }
 
-    /// Whether the step is one of an order that elects another candidate than the winner, and no NEB of the margin bars it.
+    /// Whether the step is one of an order that elects a candidate other than the winner, and no NEB of the margin bars it.
     pub fn stands(&self, set: CandSet, c: Candidate) -> bool
         requires set { set < 2 ^ self.now.tallies.bag.n }
         requires below { c < self.now.tallies.bag.n }

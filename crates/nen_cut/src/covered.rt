@@ -27,8 +27,8 @@ impl<'b> Goes for ByTallies<'b> {
     }
 }
 
-/// Whether each order that elects another candidate than the winner is refuted by a true assertion of at least the margin. More than
-/// `u32::MAX` sets are want of memory.
+/// Whether a true assertion of at least the margin refutes each order that elects a candidate other than the winner. More than `u32::MAX`
+/// sets give the error for lack of memory.
 pub(crate) fn is_covered(alloc: Global, steps: &mut ByTallies<'_>, n: u32) -> Result<bool, Memory>
     requires size { n ≡ steps.old.tallies.bag.n }
     requires some { 1 ≤ n }

@@ -9,11 +9,11 @@ use std::fmt;
 /// Why the fewest NENs aren't found.
 #[derive(Clone, Copy, Debug, PartialEq, Eq)]
 pub enum NensFault {
-    /// The NEBs let more sets stand than the budget has.
+    /// The NEBs leave more sets standing than the budget allows.
     Spent,
     /// No true assertions of at least the margin cover.
     Uncovered,
-    /// Memory could not be had.
+    /// There isn't enough memory.
     Memory,
 }
 

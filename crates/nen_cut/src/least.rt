@@ -53,11 +53,11 @@ pub struct FewestNens {
     pub nens: Vec<Claim>,
 }
 
-/// The fewest NENs of at least the margin `least` that, with the NEBs of at least that margin, refute each order that elects another
-/// candidate than `winner`.
+/// The fewest NENs of at least the margin `least` that, together with the NEBs of at least that margin, refute each order that elects a
+/// candidate other than `winner`.
 ///
-/// If the NEBs let more than `sets` sets stand, the answer is `Spent`. If no true assertions of that margin cover, it is `Uncovered`.
-/// The other error is want of memory.
+/// If the NEBs leave more than `sets` sets standing, the answer is `Spent`. If no true assertions of that margin cover, the answer is
+/// `Uncovered`. The other error means that memory ran out.
 pub fn fewest_nens(
     alloc: Global,
     counted: &Counted,

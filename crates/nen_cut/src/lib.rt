@@ -1,8 +1,8 @@
-//! The fewest NENs of a contest: with the NEBs of a margin they cover, and no true assertions of at least that margin that cover have
-//! fewer NENs.
+//! The fewest NENs of a contest: together with the NEBs of a margin they cover, and no list of true assertions of at least that margin that
+//! covers has fewer NENs.
 //!
-//! They are a minimum cut (`fewest`): units flow between sets of candidates, by steps that no NEB bars, until no more can (`set_flow`). The
-//! steps that leave the sets that a unit can come to then are cut by a NEN each.
+//! They are a minimum cut (`fewest`). Units flow between sets of candidates, by steps that no NEB bars, until no more can (`set_flow`). Then
+//! one NEN cuts each step that leaves the sets that a unit can reach.
 #![tactic(auto)]
 
 mod all;

@@ -11,7 +11,7 @@ use irv_base::{Candidate, Memory};
 use set_tallies::Ahead;
 use std::alloc::Global;
 
-// Puts the winner's true NEBs of at least this margin last.
+// Appends the winner's true NEBs of at least this margin.
 fn put_nebs(
     nebs: &mut Vec<Claim>,
     n: u32,

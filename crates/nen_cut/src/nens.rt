@@ -38,7 +38,7 @@ fn nen_across(
     steps.cutter(set, c)
 }
 
-// Puts the strongest NEN of each step last that leaves the seen sets from this one and that a NEN of the margin can cut.
+// Appends the strongest NEN of each step that leaves the seen sets from this one and that a NEN of the margin can cut.
 fn put_nens(
     nens: &mut Vec<Claim>,
     steps: &mut ByTallies<'_>,

@@ -14,8 +14,8 @@ pub(crate) struct Strongest {
     pub margin: u32,
 }
 
-/// The NEN of the largest margin by which the candidate isn't eliminated next from the set, if its margin is at least this one. The row has
-/// the tallies of the set.
+/// The NEN of the largest margin that says that the candidate isn't eliminated next from the set, if its margin is at least this one. The
+/// row has the tallies of the set.
 pub(crate) fn strongest_nen(
     n: u32,
     rest: CandSet,

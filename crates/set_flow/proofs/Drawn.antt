@@ -11,7 +11,7 @@ use Rattle.set_flow.specs.Seen.{less, turned, can_go, AreLinked, AreLinks, IsAmo
 use Rattle.set_flow.proofs.Rooms.{free-has_room, open-step}
 use Rattle.set_flow.proofs.Turning.{turned-in, turned-out, has-more, less-more, more-less, less-out}
 
--- the unit is drawn to the set at a place, and over steps between sets of places up to it flows what did
+-- the unit is drawn to the set at a place, and the flow over steps between the sets at places up to it is as before
 pub record IsDrawn (n winner : ℕ) (records : List (List ℕ)) (floor : ℕ) (old : ℕ → ℕ → ℕ) (sets : List ℕ) (place : ℕ) (now : ℕ → ℕ → ℕ) : Type 0 where
   pub drawn : Draws n winner records floor old now (get_or sets place 0)
   pub same : AreSame sets (place + 1) old now
@@ -138,7 +138,7 @@ module _ (n winner floor : ℕ) (records : List (List ℕ)) (rooms : ℕ → ℕ
             ∙ is.same s d (among s a) (among (more s d) b);
       }
 
-  -- the one or the other
+  -- either one
   pub drawn-undone : (now next : ℕ → ℕ → ℕ) (place earlier c : ℕ) → 0 < place → place < length sets → earlier ≡ get_or from place 0 →
       c ≡ get_or by place 0 → IsDrawn n winner records floor old sets place now → IsUndone now next (get_or sets place 0) c →
       IsDrawn n winner records floor old sets earlier next

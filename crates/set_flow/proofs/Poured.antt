@@ -1,4 +1,4 @@
--- A unit that flows on over a step, and then from the set that the step comes to.
+-- A unit that flows forward over a step, and then from the set that the step leads to.
 use Rattle.std.proofs.Common.{◌≡◌, ℕ, ◌+◌, ◌<◌, ◌^◌, true, false, bit_or, List, sym, ap, subst, arith, ◌∙◌}
 use Rattle.std.proofs.Math.Pow.{pow-lt}
 use Rattle.std.proofs.lemmas.Nat.{or_lt}
@@ -29,7 +29,7 @@ next-below n set c next small below out number =
     let e = with-number set c out in
     subst (λ s. s < 2 ^ n) (let h : bit_or set (2 ^ c) ≡ next = omega (arith, e, number) in h) (or_lt n set (2 ^ c) small (pow-lt below))
 
--- one unit more
+-- one more unit
 pub more-units : (n winner floor : ℕ) (records : List (List ℕ)) (old before new : ℕ → ℕ → ℕ) (units : ℕ) → 0 < n →
     HasMore n winner records floor old before units → Draws n winner records floor before new 0 → HasMore n winner records floor old new (units + 1)
 more-units n winner floor records old before new units some h draws =

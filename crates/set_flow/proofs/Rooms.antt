@@ -1,4 +1,4 @@
--- What the room of a step says of it.
+-- What the room of a step says about the step.
 use Rattle.std.proofs.Common.{◌≡◌, ℕ, ◌<◌, Bool, true, false, not, ◌&&◌, if◌then◌else◌, inl, inr, List, sym, ap, refl, eqb-true, eq-eqb, arith, ◌∙◌}
 use Rattle.std.proofs.lemmas.Bool.{and_parts, and_from, both_ways, cases_Bool, not_from_false, not-true}
 use Rattle.fewest.specs.Cuts.{is_step}
@@ -50,7 +50,7 @@ module _ (n winner : ℕ) (records : List (List ℕ)) (floor set c : ℕ) where
   free-open One carries f = refl
   free-open Many carries f = refl
 
-  -- where one unit more has room, the step has
+  -- if there is room for one more unit, the step has room
   pub free-has_room : (flow : ℕ → ℕ → ℕ) → is_free (room_of n winner records floor set c) (flow set c) ≡ true → HasRoom n winner records floor flow set c
   free-has_room flow f =
       let t = open-stands (free-open (room_of n winner records floor set c) (flow set c) f) in
@@ -61,7 +61,7 @@ module _ (n winner : ℕ) (records : List (List ℕ)) (floor set c : ℕ) where
         empty = λ u. eqb-true (flow set c) 0 (sym (ap (λ r. is_free r (flow set c)) (one-is t u)) ∙ f);
       }
 
-  -- and the other way round
+  -- and vice versa
   pub has_room-free : (flow : ℕ → ℕ → ℕ) → HasRoom n winner records floor flow set c → is_free (room_of n winner records floor set c) (flow set c) ≡ true
   has_room-free flow h =
       let t = and_from (is_step n winner set c) (not (is_barred n records floor set c)) h.step (not_from_false (is_barred n records floor set c) h.free) in

@@ -1,4 +1,4 @@
--- The sets that a search ends with, where it doesn't come to that of all.
+-- The sets that a search ends with, if it doesn't reach the set of all.
 use Rattle.std.proofs.Common.{◌≡◌, ℕ, ◌<◌, Bool, true, ◌&&◌, nat_lt, if◌then◌else◌, List, length, sym, ap, lt-ltb, ◌∙◌}
 use Rattle.std.proofs.lemmas.Bool.{and_from}
 use Rattle.irv_base.specs.Candidates.{candidates, set_of}

@@ -1,4 +1,4 @@
--- A set with a candidate more or less.
+-- A set with one candidate more or less.
 use Rattle.std.proofs.Common.{◌≡◌, ℕ, ◌+◌, ◌<◌, ◌≤◌, ◌^◌, ◌/◌, ◌%◌, ◌*◌, Bool, true, false, not, ◌&&◌, ◌||◌, ◌==◌, nat_lt, bit_or, if◌then◌else◌, inl, inr, refl, sym, ap, arith, eq-eqb, eqb-true, ◌∙◌}
 use Rattle.std.proofs.Math.Nat.{add-mul-div_right, div-eq_of_lt}
 use Rattle.std.proofs.lemmas.Nat.{pow_pos}
@@ -95,7 +95,7 @@ same-members a b h = same_from_bits a b (λ d. same_bit (bit_at a d) (bit_at b d
 pub without-less : (set c w : ℕ) → has set c ≡ true → ((d : ℕ) → has w d ≡ (has set d && not (d == c))) → w ≡ less set c
 without-less set c w t h = same-members w (less set c) (λ d. h d ∙ sym (has-less set c d t))
 
--- where a unit can go back
+-- when a unit can go back
 pub goes-back : (rooms : ℕ → ℕ → Room) (flow : ℕ → ℕ → ℕ) (set c w : ℕ) → has set c ≡ true → w ≡ less set c →
     can_go rooms flow set c ≡ (nat_lt 0 (flow w c) && is_open (rooms w c))
 goes-back rooms flow set c w t e =

@@ -1,4 +1,4 @@
--- How much room the steps between sets of candidates have.
+-- The room of the steps between sets of candidates.
 use Rattle.std.specs.Prelude.{◌≡◌, ℕ, ◌<◌, ◌^◌, Bool, true, false, not, ◌&&◌, ◌==◌, if◌then◌else◌, List}
 use Rattle.irv_base.specs.Candidates.{has}
 use Rattle.fewest.specs.Cuts.{is_step}
@@ -6,7 +6,8 @@ use Rattle.fewest.specs.Flows.{is_barred, is_cuttable}
 use Rattle.set_flow.specs.declared.room.Room.{Room}
 use Rattle.set_flow.specs.declared.room.Room.TheVariants.{Closed, One, Many}
 
--- nothing flows over a step that isn't there or that a NEB bars, one unit at most over a step that a NEN can cut, and any number over another
+-- nothing flows over a step that isn't there or that a NEB bars, at most one unit over a step that a NEN can cut, and any number over
+-- another step
 unfoldable pub room_of : ℕ → ℕ → List (List ℕ) → ℕ → ℕ → ℕ → Room
 room_of n winner records floor set c =
     if is_step n winner set c && not (is_barred n records floor set c)
@@ -24,7 +25,7 @@ is_open Closed = false
 is_open One = true
 is_open Many = true
 
--- one unit more has room
+-- there is room for one more unit
 abbrev pub is_free : Room → ℕ → Bool
 is_free Closed carries = false
 is_free One carries = carries == 0

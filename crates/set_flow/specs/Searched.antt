@@ -7,12 +7,12 @@ use Rattle.set_flow.specs.declared.searching.Search.TheVariants.{Reached, Stuck}
 use Rattle.set_flow.specs.declared.seen.Seen.{Seen}
 use Rattle.set_flow.specs.Seen.{AreLinked, AreLinks, AreLooked, IsReached}
 
--- the set of all is the last of the seen ones
+-- the set of all is the last of the seen sets
 pub record IsWay (n all : ℕ) (seen : Seen) : Type 0 where
   pub linked : AreLinked n seen.sets.keys seen.from.items seen.by.items
   pub last : IsReached seen.sets.keys all true
 
--- it isn't one of them
+-- the set of all isn't one of the seen sets
 pub record IsShut (n all : ℕ) (seen : Seen) : Type 0 where
   pub linked : AreLinked n seen.sets.keys seen.from.items seen.by.items
   pub none : is_seen seen.sets.keys all ≡ false
@@ -21,7 +21,7 @@ abbrev pub IsSearch : ℕ → ℕ → Search → Type 0
 IsSearch n all (Reached seen) = IsWay n all seen
 IsSearch n all (Stuck seen) = IsShut n all seen
 
--- a unit can come to the set of all by these links, or from these sets to no other
+-- a unit can reach the set of all by these links, or can't go from these sets to another
 abbrev pub IsSearchBy : ℕ → (ℕ → ℕ → Room) → (ℕ → ℕ → ℕ) → Search → Type 0
 IsSearchBy n rooms flow (Reached seen) =
     AreLinks rooms flow seen.sets.keys seen.from.items seen.by.items

@@ -7,7 +7,7 @@ use indexmap::IndexMap;
 use irv_base::{CandSet, Candidate, Memory, ROOM};
 use std::alloc::Global;
 
-/// What flows over each step that carries or has carried something.
+/// What flows over each step that carries something or has carried something.
 #[derive(Drop)]
 pub struct Flow {
     pub kept: IndexMap<u64, u32>,
@@ -37,7 +37,7 @@ impl Flow {
         self.kept.get(&number_of(set, c)).copied().unwrap_or(0)
     }
 
-    /// Lets one unit more flow over a step. More than `u32::MAX` units are want of memory.
+    /// Lets one more unit flow over a step. More than `u32::MAX` units give the error for lack of memory.
     pub fn put(&mut self, set: CandSet, c: Candidate) -> Result<(), Memory>
         ensures { OnOk result (HasOneMore (carried self.old.kept) (carried self.new.kept) set c) }
     {

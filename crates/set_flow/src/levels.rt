@@ -1,10 +1,10 @@
-// How many steps a search took to each set.
+// The number of steps that a search took to each set.
 use crate::seen::Seen;
 use irv_base::{CandSet, Memory};
 use std::alloc::Global;
 
 /// The sets that a search saw, each with its level: one more than that of the set that it was seen from. A unit that goes up a level with
-/// each step goes by the fewest steps. Which steps are tried changes no answer, so nothing is promised.
+/// each step takes the fewest steps. The choice of steps to try changes no answer, so nothing is promised.
 #[derive(Drop)]
 pub(crate) struct Levels {
     seen: Seen,

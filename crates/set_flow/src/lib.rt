@@ -1,4 +1,4 @@
-//! What flows between sets of candidates, kept by step: one unit at a time, on over a step or back over it, until no more can flow.
+//! What flows between sets of candidates, kept by step: one unit at a time, forward over a step or back over it, until no more can flow.
 #![tactic(auto)]
 
 mod flow;

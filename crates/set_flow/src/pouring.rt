@@ -1,4 +1,4 @@
-// Units that flow by steps on alone.
+// Units that flow only by steps forward.
 ghost use Rattle.std.specs.Prelude.{◌≡◌, ◌<◌, ◌≤◌, ◌^◌, ℕ, List, true, false, OnOk, IfOk};
 ghost use Rattle.irv_base.specs.Candidates.{candidates, set_of};
 ghost use Rattle.irv_base.specs.declared.limits.TheConstants.{ROOM};
@@ -14,8 +14,8 @@ use indexmap::IndexSet;
 use irv_base::{CandSet, Candidate, Memory};
 use std::alloc::Global;
 
-// Lets a unit flow from the set to that of all, by steps on into no dead set. Answers whether one did. Where none does, the set is dead
-// from then on. The recursion is as deep as there are candidates.
+// Lets a unit flow from the set to the set of all, by steps forward into sets that aren't dead. Returns whether a unit did. If none does,
+// the set is dead from then on. The recursion is as deep as the number of candidates.
 fn pour<T: Steps>(
     steps: &mut T,
     n: u32,
@@ -59,7 +59,7 @@ fn pour<T: Steps>(
     Ok(false)
 }
 
-/// Lets units flow from nobody's set to that of all, by steps on alone, until none does. Answers how many did.
+/// Lets units flow from the empty set to the set of all, only by steps forward, until none does. Returns the number of units that did.
 pub fn fill<T: Steps>(
     alloc: Global,
     steps: &mut T,

@@ -1,4 +1,4 @@
-// Units that flow on and back, until none can.
+// Units that flow forward and back, until none can.
 ghost use Rattle.std.specs.Prelude.{◌≡◌, ◌<◌, ◌≤◌, ℕ, List, OnOk, IfOk};
 ghost use Rattle.irv_base.specs.Candidates.{candidates, set_of};
 ghost use Rattle.irv_base.specs.declared.limits.TheConstants.{ROOM};
@@ -22,7 +22,8 @@ use indexmap::IndexSet;
 use irv_base::{CandSet, Candidate, Memory};
 use std::alloc::Global;
 
-// Draws a unit from a set back to the one that it came from by this candidate: on to a set that has the candidate, or back to one that hasn't.
+// Draws a unit from a set back to the set that it came from by this candidate: forward to a set that has the candidate, or back to one that
+// doesn't.
 fn undo(flow: &mut Flow, set: CandSet, c: Candidate) -> Result<(), Memory>
     ensures { OnOk result (IsUndone (carried flow.old.kept) (carried flow.new.kept) set c) }
 {
@@ -33,7 +34,7 @@ fn undo(flow: &mut Flow, set: CandSet, c: Candidate) -> Result<(), Memory>
     }
 }
 
-// Draws a unit from the set of all back to nobody's, along the way by which it was seen.
+// Draws a unit from the set of all back to the empty set, along the way by which the set of all was seen.
 fn draw(flow: &mut Flow, seen: &Seen) -> Result<(), Memory>
     requires { (n all : ℕ) × IsWay n all seen.now }
     ensures { (n all winner floor : ℕ) (records : List (List ℕ)) (rooms : ℕ → ℕ → Room)
@@ -52,7 +53,7 @@ fn draw(flow: &mut Flow, seen: &Seen) -> Result<(), Memory>
     Ok(())
 }
 
-// Lets further units flow, each by steps to higher levels alone, until none can.
+// Lets further units flow, each only by steps to higher levels, until none can.
 fn draw_more<T: Steps>(
     alloc: Global,
     steps: &mut T,
@@ -81,8 +82,8 @@ fn draw_more<T: Steps>(
     Err(Memory)
 }
 
-/// Lets units flow from nobody's set to that of all, by steps on and back, until none can. Answers the sets that a unit can come to then:
-/// they are a cut, and it can't go from them to another. More than `u32::MAX` units are want of memory.
+/// Lets units flow from the empty set to the set of all, by steps forward and back, until none can. Returns the sets that a unit can then
+/// reach: they are a cut, and a unit can't go from them to another. More than `u32::MAX` units give the error for lack of memory.
 pub fn rise<T: Steps>(
     alloc: Global,
     steps: &mut T,

@@ -1,4 +1,4 @@
-// How much room a step has.
+// The room of a step.
 ghost use Rattle.std.specs.Prelude.{◌≡◌};
 ghost use Rattle.set_flow.specs.Rooms.{is_free, is_open};
 
@@ -7,14 +7,14 @@ ghost use Rattle.set_flow.specs.Rooms.{is_free, is_open};
 pub enum Room {
     /// Nothing.
     Closed,
-    /// One unit, since a NEN can cut it.
+    /// One unit, since a NEN can cut the step.
     One,
     /// Any number.
     Many,
 }
 
 impl Room {
-    /// Whether anything may flow over it.
+    /// Whether anything may flow over the step.
     pub fn is_open(self) -> bool
         ensures { result ≡ is_open self }
     {
@@ -24,7 +24,7 @@ impl Room {
         }
     }
 
-    /// Whether one unit more has room where this many flow.
+    /// Whether there is room for one more unit when this many flow.
     pub fn is_free(self, carries: u32) -> bool
         ensures { result ≡ is_free self carries }
     {

@@ -1,4 +1,4 @@
-// The search for a way from nobody's set to that of all, by the fewest steps.
+// The search for a way from the empty set to the set of all, by the fewest steps.
 ghost use Rattle.std.specs.Prelude.{◌≡◌, ◌<◌, ◌≤◌, ◌+◌, ◌^◌, ℕ, true, false, length, get_or, IfOk, OnOk};
 ghost use Rattle.irv_base.specs.declared.limits.TheConstants.{ROOM};
 ghost use Rattle.set_walk.specs.Dives.{is_seen};
@@ -16,13 +16,13 @@ use std::alloc::Global;
 /// How a search ends.
 #[derive(Drop)]
 pub enum Search {
-    /// The set of all was seen, as the last.
+    /// The set of all was seen, and it is the last.
     Reached(Seen),
-    /// A unit can't go from these sets to another, and that of all isn't among them.
+    /// A unit can't go from these sets to another, and the set of all isn't among them.
     Stuck(Seen),
 }
 
-/// The set with the candidate, or without one who is in it.
+/// The set with the candidate added, or without a candidate who is in it.
 pub(crate) fn turned(set: CandSet, c: Candidate) -> CandSet
     ensures { result ≡ turned set c }
 {
@@ -60,7 +60,8 @@ fn can_go<T: Steps>(
     Ok(room.is_free(flow.over(set, c)))
 }
 
-/// Puts the set that a unit can go to by this candidate from that at a place, if it wasn't seen. Answers whether it is that of all.
+/// Appends the set that a unit can go to by this candidate from the set at a place, if it wasn't seen. Returns whether it is the set of
+/// all.
 pub(crate) fn look_by<T: Steps>(
     steps: &mut T,
     n: u32,
@@ -99,7 +100,7 @@ pub(crate) fn look_by<T: Steps>(
     Ok(next == all)
 }
 
-// Puts the sets that a unit can go to from that at a place, until it is that of all. Answers whether that was put.
+// Appends the sets that a unit can go to from the set at a place, up to the set of all. Returns whether the set of all was appended.
 fn look<T: Steps>(
     steps: &mut T,
     n: u32,
@@ -133,7 +134,8 @@ fn look<T: Steps>(
     Ok(false)
 }
 
-/// Searches all sets that a unit can come to from nobody's, for that of all. More than `u32::MAX` sets are want of memory.
+/// Searches all sets that a unit can reach from the empty set, for the set of all. More than `u32::MAX` sets give the error for lack of
+/// memory.
 pub fn search_all<T: Steps>(
     alloc: Global,
     steps: &mut T,

@@ -1,4 +1,4 @@
-// The sets that a unit can come to.
+// The sets that a unit can reach.
 ghost use Rattle.std.specs.Prelude.{◌≡◌, ◌<◌, ℕ, [], ◌∷◌, ◌++◌, false, length, get_or, IfOk, OnOk};
 ghost use Rattle.set_walk.specs.Dives.{is_seen};
 
@@ -6,8 +6,8 @@ use indexmap::IndexSet;
 use irv_base::{CandSet, Candidate, Memory};
 use std::alloc::Global;
 
-/// The sets that a unit can come to from nobody's, in the order in which they were seen. Each has the place of the set that it was seen
-/// from, and the candidate who is in one of the two alone. What the first, nobody's, has there means nothing.
+/// The sets that a unit can reach from the empty set, in the order in which they were seen. Each has the place of the set that it was seen
+/// from, and the candidate who is in only one of the two. For the first, the empty set, these mean nothing.
 #[derive(Drop)]
 pub struct Seen {
     pub sets: IndexSet<CandSet>,
@@ -16,7 +16,7 @@ pub struct Seen {
 }
 
 impl Seen {
-    /// Nobody's set alone.
+    /// Only the empty set.
     pub fn nobody(alloc: Global) -> Result<Seen, Memory>
         ensures sets { IfOk result (λ seen. seen.sets.keys ≡ 0 ∷ []) }
         ensures from { IfOk result (λ seen. seen.from.items ≡ 0 ∷ []) }
@@ -31,7 +31,7 @@ impl Seen {
         Ok(seen)
     }
 
-    /// Puts a set last that wasn't seen.
+    /// Appends a set that wasn't seen.
     pub fn put(&mut self, set: CandSet, from: u32, by: Candidate) -> Result<(), Memory>
         requires { is_seen self.old.sets.keys set ≡ false }
         ensures sets { OnOk result (self.new.sets.keys ≡ self.old.sets.keys ++ set ∷ []) }
@@ -44,7 +44,7 @@ impl Seen {
         Ok(())
     }
 
-    /// How many there are.
+    /// The number of sets.
     pub fn len(&self) -> usize
         ensures { result ≡ length self.now.sets.keys }
     {

@@ -8,13 +8,13 @@ use irv_base::{CandSet, Candidate, Memory};
 
 /// The rooms of the steps between sets.
 pub trait Steps {
-    /// How many candidates the contest has.
+    /// The number of candidates in the contest.
     ghost size: { Self → ℕ };
 
-    /// Whether these are the rooms that it answers by.
+    /// Whether the steps answer by these rooms.
     ghost is_by: { Self → (ℕ → ℕ → Room) → Type 0 };
 
-    /// How much room the step of a candidate, who is outside, from the set has. The one error is want of memory.
+    /// The room of the step from the set by a candidate, who is outside it. The only error means that memory ran out.
     fn room(&mut self, set: CandSet, c: Candidate) -> Result<Room, Memory>
         requires set { set < 2 ^ size self.old }
         requires below { c < size self.old }

@@ -1,4 +1,4 @@
-// Further ways by the fewest steps, once a search found one.
+// Further ways by the fewest steps, once a search has found one.
 ghost use Rattle.std.specs.Prelude.{◌≡◌, ◌<◌, ◌≤◌, ◌^◌, ℕ, List, true, false, length, IfOk, IfSome, OnOk};
 ghost use Rattle.irv_base.specs.declared.limits.TheConstants.{ROOM};
 ghost use Rattle.set_walk.specs.Dives.{is_seen};
@@ -16,8 +16,8 @@ use indexmap::IndexSet;
 use irv_base::{CandSet, Candidate, Memory};
 use std::alloc::Global;
 
-// Puts the first set that a unit can go to from that at a place, if it is on a higher level and neither dead nor seen. Answers whether it
-// is that of all.
+// Appends the first set that a unit can go to from the set at a place, if it is on a higher level and neither dead nor seen. Returns
+// whether it is the set of all.
 fn go_on<T: Steps>(
     steps: &mut T,
     n: u32,
@@ -59,8 +59,8 @@ fn go_on<T: Steps>(
     Ok(false)
 }
 
-/// A way from nobody's set to that of all by steps that a unit can take, each to a higher level, into no dead set. Sets that none leads on
-/// from are dead from then on.
+/// A way from the empty set to the set of all by steps that a unit can take, each to a higher level and not into a dead set. A set that no
+/// step leads on from is dead from then on.
 pub(crate) fn find_way<T: Steps>(
     alloc: Global,
     steps: &mut T,

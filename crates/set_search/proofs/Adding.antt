@@ -1,4 +1,4 @@
--- Sets that are added, one after the other.
+-- Sets that are added, in order.
 use Rattle.std.proofs.Common.{◌≡◌, inl, inr, ℕ, ◌+◌, false, true, List, ◌∷◌, Contains, sym, subst, arith}
 use Rattle.std.specs.List.Sorted.{IsPermutation}
 use Rattle.std.proofs.lemmas.Bool.{both_ways, cases_eq}

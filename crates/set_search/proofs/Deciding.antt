@@ -1,4 +1,4 @@
--- What walks by the best margin, and below it, say of the certificate and of the sets that it needs.
+-- What walks by the best margin, and below it, say about the certificate and the sets that it needs.
 use Rattle.std.proofs.Common.{◌≡◌, ℕ, ◌^◌, ◌-◌, ◌<◌, ◌≤◌, inl, inr, Bool, true, false, nat_lt, if◌then◌else◌, List, [], ◌∷◌, length, Option, Some, None, Ok, Err, refl, sym, ap, subst, arith, ltb-true, ◌∙◌}
 use Rattle.std.proofs.lemmas.Bool.{cases_Bool, cases_lt, both_ways, ltb-false}
 use Rattle.irv_base.specs.Candidates.{set_of}
@@ -165,12 +165,12 @@ none-under n winner records zero =
         let lt = ltb-true (step n records (set_of t) d) (best_of n records winner) g in
         omega (arith, lt, zero)
 
--- ---- what the parts come to
+-- ---- the results of the parts
 pub start-hardness : (bag : Kept) (records : List (List ℕ)) (tab : Tabulated) (start : Best) → IsOf bag records → IsReached bag tab.winner start →
     start.order ≡ start_order tab.order → start.margin ≡ first_bound bag.n records tab.order
 start-hardness bag records tab start of reached is = sym (ap (low bag.n records) (sym is) ∙ reached.hardness records of)
 
--- a start order of hardness 0 tells that the contest isn't decided
+-- a start order of hardness 0 shows that the contest isn't decided
 pub start-undecided : (bag : Kept) (records : List (List ℕ)) (tab : Tabulated) (sets : ℕ) (start : Best) → IsOf bag records →
     IsReached bag tab.winner start → start.order ≡ start_order tab.order → start.margin ≡ 0 → IsUndecided bag.n records tab sets
 start-undecided bag records tab sets start of reached is zero =
@@ -188,7 +188,7 @@ best-undecided n records tab sets best o zero =
     let few = o.within in
     record { none = none; within = λ _. omega (arith, cover, few) }
 
--- ---- how many sets are needed at most
+-- ---- the maximum number of sets needed
 pub sets_are_few : (n winner : ℕ) (records : List (List ℕ)) → winner < n → 1 < n → sets_for n records winner ≤ 2 ^ n - 3
 sets_are_few n winner records low' two =
     let cover = standing_are_fewer n winner (within (Below (best_of n records winner)) n records) low' two in

@@ -50,7 +50,7 @@ is_some : (o : Option Assertion) (a : Assertion) → is_some_same o a ≡ true �
 is_some None a h = cc
 is_some (Some b) a h = ap Some (is_the_same b a h)
 
--- ---- those outside a set, one after the other
+-- ---- the candidates outside a set, in order
 abbrev pub outside_from : ℕ → ℕ → ℕ → List ℕ
 outside_from closed c n = filter (λ d. not (has closed d)) (range_with_len c (n - c))
 
@@ -76,7 +76,7 @@ module _ (n : ℕ) (records : List (List ℕ)) (margin : ℕ) where
   abbrev given : ℕ → ℕ → Option Assertion
   given set c = given_by margin (step_score n records set c)
 
-  -- what is given is a step's of at least the margin
+  -- what is given comes from a step of at least the margin
   given-parts : (set c : ℕ) (a : Assertion) → given set c ≡ Some a → (margin ≤ step n records set c) × (step_refuter n records set c ≡ Some a)
   given-parts set c a h = go (nat_le margin (step n records set c)) refl h where
     go : (b : Bool) → nat_le margin (step n records set c) ≡ b → (if b then step_refuter n records set c else None) ≡ Some a →

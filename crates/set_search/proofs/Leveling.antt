@@ -1,4 +1,4 @@
--- What is known of the sets that a search goes into by the least low first.
+-- What is known about the sets that a search goes into, the one with the least low first.
 use Rattle.std.proofs.Common.{◌≡◌, ◌≢◌, ◌⊎◌, inl, inr, ℕ, ◌<◌, ◌≤◌, max, true, false, not, ◌==◌, List, [], ◌∷◌, ◌++◌, length, length-append, All, refl, sym, ap, subst, arith, eq-eqb, eqb-true, ne_eqb, le-leb, ◌∙◌}
 use Rattle.std.specs.List.Sorted.{IsPermutation}
 use Rattle.std.proofs.lemmas.Bool.{both_ways, cases_lt, not-true, not_from_false, eqb-false}
@@ -83,7 +83,7 @@ module _ (n winner : ℕ) (records : List (List ℕ)) where
     go ([], e) = cc
     go (x ∷ b, e) = cc
 
-  -- the waiting sets alone, at the start
+  -- only the waiting sets, at the start
   pub starts : (closed : ℕ) (waiting : List Waiting) → ((c : ℕ) → has closed c ≡ (c == winner)) → AreAdded n records 0 0 closed [] waiting → S 0 [] waiting
   starts closed waiting only-winner h = record {
     sound = λ s m. absurd (member_nil m);
@@ -118,7 +118,7 @@ module _ (n winner : ℕ) (records : List (List ℕ)) where
             },
           )
 
-  -- where all that is waiting is above a margin, the sets of suffixes within it were seen
+  -- if all that is waiting is above a margin, the sets of suffixes within it were seen
   reach : (level bound : ℕ) (seen : List ℕ) (waiting : List Waiting) → level ≤ bound → S level seen waiting → ((o : Waiting) → Member o waiting → bound < o.margin) →
       (t : List ℕ) → Other n winner t → low n records t ≤ bound → Member (set_of t) seen
   reach level bound seen waiting up s above [] o le = absurd (nobody o)
@@ -165,7 +165,7 @@ module _ (n winner : ℕ) (records : List (List ℕ)) where
   empty [] x e m = member_nil m
   empty (y ∷ ys) x e m = cc
 
-  -- something is waiting, always
+  -- something is always waiting
   pub never-closed : winner < n → 1 < n → (level : ℕ) (seen : List ℕ) (waiting : List Waiting) → S level seen waiting → length waiting ≡ 0 → ⊥
   never-closed low' two level seen waiting s none =
       let (order, m, e) = best_is n winner (low n records) low' two in
@@ -174,7 +174,7 @@ module _ (n winner : ℕ) (records : List (List ℕ)) where
       never-whole level seen waiting s order m
       (reach level (low n records order) seen waiting (omega (arith, most, e)) s (λ x k. absurd (empty waiting x none k)) order o (omega arith))
 
-  -- the margin rises to the least that is waiting
+  -- the margin rises to the smallest that is waiting
   pub rises : winner < n → 1 < n → (level margin : ℕ) (seen : List ℕ) (waiting : List Waiting) → S level seen waiting →
       ((o : Waiting) → Member o waiting → margin ≤ o.margin) → S (max margin level) seen waiting
   rises low' two level margin seen waiting s least = record {
@@ -230,7 +230,7 @@ module _ (n winner : ℕ) (records : List (List ℕ)) where
       gone : (o : Waiting) → Member o (x ∷ waiting) → Member o waiting ⊎ Member o.set seen
       gone o m = elim (member_cases m) [ inl e ↦ inr (subst (λ (y : Waiting). Member y.set seen) e known) | inr k ↦ inl k ]
 
-  -- the set of the least margin is taken, and the margin rises to its
+  -- the set of the smallest margin is taken, and the margin rises to its margin
   pub takes : winner < n → 1 < n → (level higher : ℕ) (seen : List ℕ) (x : Waiting) (old rest : List Waiting) → S level seen old →
       IsPermutation old (x ∷ rest) → All (λ (y : Waiting). x.margin ≤ y.margin) rest → higher ≡ max x.margin level → S higher seen (x ∷ rest)
   takes low' two level higher seen x old rest s p least is =
@@ -240,7 +240,7 @@ module _ (n winner : ℕ) (records : List (List ℕ)) where
         | inr k ↦ All-contains (λ (y : Waiting). x.margin ≤ y.margin) rest o least (contains-from_member k)
       ]))
 
-  -- how many candidates a set has
+  -- the number of candidates in a set
   pub long-is : n ≤ ROOM → (level set : ℕ) (t : List ℕ) → Comes n winner records level set t → length (members set) ≡ length t
   long-is room level set t w = ap (λ s. length (members s)) (sym w.same) ∙ members-long n t w.is.proper room
 
@@ -250,7 +250,7 @@ module _ (n winner : ℕ) (records : List (List ℕ)) where
       let most = suffix-short n t w.is.proper in
       elim (cases_lt (length t) n) [ inl lt ↦ lt | inr ge ↦ absurd (ne (omega (arith, long, most, ge))) ]
 
-  -- how the suffix of the set that is taken comes to it
+  -- how the suffix of the set that is taken reaches it
   pub taken : (level : ℕ) (seen : List ℕ) (x : Waiting) (waiting : List Waiting) → S level seen (x ∷ waiting) → x.margin ≤ level →
       (t : List ℕ) × Comes n winner records level x.set t
   taken level seen x waiting s le =
@@ -331,7 +331,7 @@ module _ (n winner : ℕ) (records : List (List ℕ)) where
       let most = s.most in
       record { most = most; ends = inl (omega (arith, best, low', most)) }
 
-  -- a set more than the budget has is taken
+  -- a set more than the budget allows is taken
   pub full : (sets level : ℕ) (seen : List ℕ) (x : Waiting) (waiting : List Waiting) → S level seen (x ∷ waiting) → x.margin ≤ level →
       (Member x.set seen → ⊥) → ((t : List ℕ) → Comes n winner records level x.set t → length t < n) → sets ≤ length seen →
       IsLevel n records winner sets level

@@ -1,4 +1,4 @@
--- One candidate more in a set.
+-- One more candidate in a set.
 use Rattle.std.proofs.Common.{◌≡◌, ℕ, ◌^◌, ◌<◌, ◌≤◌, true, false, ◌||◌, ◌==◌, bit_or, List, length, sym, ap, subst, arith, ne_eqb, ◌∙◌}
 use Rattle.std.proofs.Math.Pow.{pow-lt}
 use Rattle.std.proofs.lemmas.List.Sums.{count_by-le-length, length-filter}
@@ -24,11 +24,11 @@ has-more set c d out = ap (λ s. has s d) (more-with set c out) ∙ has-with set
 pub more-below : (n set c : ℕ) → set < 2 ^ n → c < n → has set c ≡ false → more set c < 2 ^ n
 more-below n set c small below out = subst (λ s. s < 2 ^ n) (sym (more-with set c out)) (or_lt n set (2 ^ c) small (pow-lt below))
 
--- nobody's set has nobody
+-- the empty set has no members
 pub none-has : (c : ℕ) → has 0 c ≡ false
 none-has c = ne_eqb _ 1 (λ e. let z = bit_at-zero c in absurd (omega (arith, e, z)))
 
--- so many members
+-- the number of members
 pub members-long : (n : ℕ) (t : List ℕ) → is_suffix n t ≡ true → n ≤ ROOM → length (members (set_of t)) ≡ length t
 members-long n t proper room =
     let apart = suffix-distinct n t proper in

@@ -1,4 +1,4 @@
--- What one more candidate has to do with the others, one after the other.
+-- How one more candidate compares with the others, in order.
 use Rattle.std.proofs.Common.{◌≡◌, ℕ, ◌+◌, ◌-◌, ◌<◌, Bool, true, false, not, ◌==◌, ◌^◌, if◌then◌else◌, get_or, List, ◌∷◌, map, filter, cond, refl, sym, ap, ap₂, arith, ◌∙◌}
 use Rattle.std.specs.List.{range_with_len}
 use Rattle.irv_base.specs.Candidates.{has}

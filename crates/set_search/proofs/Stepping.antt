@@ -1,4 +1,4 @@
--- The step of a set is the best of what one more candidate has to do with each other one.
+-- The step of a set is the best of the comparisons of one more candidate with each other candidate.
 use Rattle.std.proofs.Common.{◌≡◌, ℕ, ◌-◌, ◌^◌, ◌<◌, ◌⊎◌, inl, inr, Bool, true, false, not, ◌&&◌, ◌==◌, if◌then◌else◌, List, map, Option, Some, None, refl, sym, ap, subst, arith, eq-eqb, eqb-true, ne_eqb, lt-ltb, ltb-true, ◌∙◌}
 use Rattle.std.proofs.lemmas.Bool.{and_from, and_parts, cases_Bool, cases_lt, eqb-false, not-true, not_from_false, or_cases, or_parts, or_from, or_left, or_right}
 use Rattle.irv_base.specs.Candidates.{all_but, candidates, has}

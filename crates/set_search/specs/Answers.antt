@@ -14,8 +14,7 @@ use Rattle.set_search.specs.declared.ends.SetsEnd.TheVariants.{Certificate as Ce
 use Rattle.set_search.specs.declared.ends.SetsFault.{SetsFault}
 use Rattle.set_search.specs.declared.ends.SetsFault.TheVariants.{Spent, Memory}
 
--- x is the canonical certificate of the records, with a margin above 0, and the budget has the sets
--- that are needed
+-- x is the canonical certificate of the records, with a margin above 0, and the needed sets are within the budget
 pub record IsCertified (n : ℕ) (records : List (List ℕ)) (winner sets : ℕ) (x : Certificate)
     : Type 0 where
   pub claims : x.claims.items ≡ certificate_claims n records winner
@@ -24,8 +23,8 @@ pub record IsCertified (n : ℕ) (records : List (List ℕ)) (winner sets : ℕ)
   pub some : 1 ≤ x.margin
   pub within : sets_for n records winner ≤ sets
 
--- the certificate's order with the best margin, above 0, and the start order with its hardness, above 0; the budget has the sets that
--- the order needs
+-- the certificate's order with the best margin, above 0, and the start order with its hardness, above 0; the sets that the order needs are
+-- within the budget
 pub record IsBestFound (n : ℕ) (records : List (List ℕ)) (tab : Tabulated) (sets : ℕ)
     (found : BestFound) : Type 0 where
   pub best : IsOrder n records tab.winner sets found.best
@@ -34,13 +33,13 @@ pub record IsBestFound (n : ℕ) (records : List (List ℕ)) (tab : Tabulated) (
   pub hardness : found.start.margin ≡ first_bound n records tab.order
   pub some_start : 1 ≤ found.start.margin
 
--- the best margin is 0, and the budget has the sets that are needed, if the start order doesn't show it
+-- the best margin is 0, and the needed sets are within the budget if the start order doesn't show that
 pub record IsUndecided (n : ℕ) (records : List (List ℕ)) (tab : Tabulated) (sets : ℕ)
     : Type 0 where
   pub none : best_of n records tab.winner ≡ 0
   pub within : 1 ≤ first_bound n records tab.order → sets_for n records tab.winner ≤ sets
 
--- more sets are needed than the budget has; with it comes the start order with its hardness, which is above 0
+-- more sets are needed than the budget allows; the answer includes the start order with its hardness, which is above 0
 pub record IsSpent (n : ℕ) (records : List (List ℕ)) (tab : Tabulated) (sets : ℕ)
     (order : List ℕ) (margin : ℕ) : Type 0 where
   pub above : sets < sets_for n records tab.winner
@@ -56,7 +55,7 @@ abbrev pub IsBestEnd : ℕ → List (List ℕ) → Tabulated → ℕ → BestEnd
 IsBestEnd n records tab sets (BestFoundEnd found) = IsBestFound n records tab sets found
 IsBestEnd n records tab sets BestUndecided = IsUndecided n records tab sets
 
--- want of memory says nothing
+-- running out of memory says nothing
 abbrev pub IsFault : ℕ → List (List ℕ) → Tabulated → ℕ → SetsFault → Type 0
 IsFault n records tab sets (Spent order margin) = IsSpent n records tab sets order margin
 IsFault n records tab sets Memory = ⊤

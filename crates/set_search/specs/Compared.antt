@@ -1,4 +1,4 @@
--- The order of waiting sets is a total one.
+-- The order of waiting sets is total.
 use Rattle.std.specs.Cmp.{IsTotalOrder, back_total, on_total, then_total, nat_cmp_total}
 use Rattle.set_search.specs.declared.waiting.Waiting.{Waiting}
 use Rattle.set_search.specs.Waits.{least_first}

@@ -18,7 +18,7 @@ abbrev pub with_step : (Assertion → Assertion → Ordering) → ℕ → List (
     List (Assertion × ℕ)
 with_step cmp margin entries step = with_margin cmp entries (given_by margin step) step.low
 
--- those of the steps from the set by each of the candidates
+-- the entries with those of the steps from the set by each of the candidates
 abbrev pub with_each : (Assertion → Assertion → Ordering) → ℕ → List (List ℕ) → ℕ →
     List (Assertion × ℕ) → ℕ → List ℕ → List (Assertion × ℕ)
 with_each cmp n records margin entries set cs =
@@ -29,7 +29,7 @@ abbrev pub with_steps : (Assertion → Assertion → Ordering) → ℕ → List 
 with_steps cmp n records margin entries set closed =
     with_each cmp n records margin entries set (outside n closed)
 
--- the sets are those that are reached below the margin
+-- the sets are the ones that are reached below the margin
 abbrev pub AreCover : ℕ → List (List ℕ) → ℕ → ℕ → List ℕ → Type 0
 AreCover n records winner margin sets =
     (set : ℕ) →

@@ -6,7 +6,7 @@ use Rattle.certifier.specs.declared.certificate.Certificate.{Certificate}
 use Rattle.set_search.specs.Answers.{IsCertified, IsSpent}
 use Rattle.set_search.specs.Sets.{best_of, sets_for}
 
--- nobody's set isn't needed, nor that of the winner alone, nor that of all candidates
+-- the empty set, the set of only the winner and the set of all candidates are never needed
 abbrev pub SetsAreFew : Type 0
 SetsAreFew =
     (n winner : ℕ) (records : List (List ℕ)) → winner < n → 1 < n →

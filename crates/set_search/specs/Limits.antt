@@ -8,6 +8,6 @@ abbrev pub lets : Limit → ℕ → Bool
 lets (Below limit) margin = nat_lt margin limit
 lets (AtMost limit) margin = nat_le margin limit
 
--- by the steps that the limit lets through
+-- a walk by the steps that the limit lets through
 abbrev pub within : Limit → ℕ → List (List ℕ) → ℕ → ℕ → Bool
 within limit n records set c = lets limit (step n records set c)

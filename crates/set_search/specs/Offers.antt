@@ -1,4 +1,4 @@
--- What one more candidate in front of a suffix has to do with each other candidate.
+-- How one more candidate in front of a suffix compares with each other candidate.
 use Rattle.std.specs.Prelude.{ℕ, if◌then◌else◌, List, map}
 use Rattle.irv_base.specs.Candidates.{all_but, has}
 use Rattle.assertions.specs.declared.assertion.Assertion.{Assertion}
@@ -6,7 +6,7 @@ use Rattle.assertions.specs.declared.assertion.Assertion.TheVariants.{Neb, Nen}
 use Rattle.assertions.specs.Scores.{Score}
 use Rattle.assertions.specs.Steps.{more, step, step_refuter}
 
--- its NEN over one in the set, with just the set and itself left, or the NEB over it of one outside
+-- its NEN over a candidate in the set, with only the set and itself remaining, or the NEB over it of a candidate outside
 abbrev pub offer_of : ℕ → ℕ → ℕ → Assertion
 offer_of set c d = if has set d then Nen c d (more set c) else Neb d c
 

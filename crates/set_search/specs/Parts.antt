@@ -13,7 +13,7 @@ pub record IsOrder (n : ℕ) (records : List (List ℕ)) (winner sets : ℕ) (be
       certificate_order n winner (low n records) (best_of n records winner) ≡ Some best.order
   pub within : order_sets n records winner ≤ sets
 
--- that, or more sets are needed than the budget has
+-- that, or more sets are needed than the budget allows
 abbrev pub IsOrderIn : ℕ → List (List ℕ) → ℕ → ℕ → Option Best → Type 0
 IsOrderIn n records winner sets None = sets < sets_for n records winner
 IsOrderIn n records winner sets (Some best) = IsOrder n records winner sets best

@@ -1,4 +1,4 @@
--- Sets that one may go into next.
+-- The sets that a search may go into next.
 use Rattle.std.specs.Prelude.{◌≡◌, ◌⊎◌, ℕ, ◌+◌, ◌<◌, ◌^◌, false, max, List, length, All, Contains}
 use Rattle.std.specs.declared.cmp.Ordering.{Ordering}
 use Rattle.std.specs.Ordering.{flip_args, nat_cmp, on, then_cmp}
@@ -6,11 +6,11 @@ use Rattle.irv_base.specs.Candidates.{has, members}
 use Rattle.assertions.specs.Steps.{more, step}
 use Rattle.set_search.specs.declared.waiting.Waiting.{Waiting}
 
--- that of the least margin is the greatest; of equal margins the larger set is
+-- the set with the smallest margin is the greatest; of equal margins the larger set is
 abbrev pub least_first : Waiting → Waiting → Ordering
 least_first = then_cmp (flip_args (on (λ o. o.margin) nat_cmp)) (on (λ o. o.size) nat_cmp)
 
--- the set with c more, by its step, or by the low with which the set was reached if that is greater
+-- the set with c added, by its step, or by the low at which the set was reached if that is greater
 abbrev pub waiting_at : ℕ → List (List ℕ) → ℕ → ℕ → ℕ → Waiting
 waiting_at n records low set c =
     record {
@@ -23,8 +23,7 @@ waiting_at n records low set c =
 abbrev pub AreBelow : ℕ → List Waiting → Type 0
 AreBelow n waiting = All (λ o. o.set < 2 ^ n) waiting
 
--- the sets that one comes to from this one, by one more candidate of those below k who aren't in
--- `closed`, wait now, and besides them those that did
+-- the waiting sets are now those that this set leads to, by one more candidate below k who isn't in `closed`, and those that waited before
 pub record AreAddedUpTo (n : ℕ) (records : List (List ℕ)) (low set closed k : ℕ)
     (old new : List Waiting) : Type 0 where
   pub kept : (o : Waiting) → Contains old o → Contains new o

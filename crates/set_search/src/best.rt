@@ -16,7 +16,7 @@ use set_tallies::Counted;
 use set_walk::{WalkEnd, WalkFault, walk_within};
 use std::alloc::Global;
 
-// The certificate's order with the best margin, or none if more sets are needed than the budget has.
+// The certificate's order with the best margin, or none if more sets are needed than the budget allows.
 fn order_in(
     alloc: Global,
     steps: &mut ByMargin<'_>,
@@ -34,7 +34,7 @@ fn order_in(
     match walk_within(alloc, steps, n, winner, sets) {
         Ok(end) => match end {
             WalkEnd::Found(order) => Ok(Some(Best { order, margin })),
-            // An order walks by this margin, or more sets are reached than the budget has, so that the walk doesn't end.
+            // An order walks by this margin, or more sets are reached than the budget allows. So the walk doesn't end.
             WalkEnd::Ended(_seen) => Ok(None),
         },
         Err(fault) => match fault {
@@ -44,7 +44,7 @@ fn order_in(
     }
 }
 
-/// What a search that started with this order says, if more sets are needed than the budget has.
+/// The fault of a search that started with this order, if more sets are needed than the budget allows.
 pub(crate) fn spent_from(start: &Best) -> SetsFault
     ensures { result ≡ SetsSpent start.now.order start.now.margin }
 {
@@ -54,7 +54,7 @@ pub(crate) fn spent_from(start: &Best) -> SetsFault
     }
 }
 
-/// The certificate's order with the best margin, by the tallies of these steps.
+/// The certificate's order with the best margin, found with the tallies of these steps.
 pub(crate) fn best_in(
     alloc: Global,
     steps: &mut ByMargin<'_>,
@@ -82,11 +82,11 @@ pub(crate) fn best_in(
     Ok(BestEnd::Found(BestFound { best, start }))
 }
 
-/// The best margin of the contest with these records, of which `tab` is the tabulation, and the order of the canonical certificate, found
-/// by sets. They are those that `certify_by_sets` finds, without its claims.
+/// The best margin of the contest with these records, whose tabulation is `tab`, and the order of the canonical certificate, found by sets.
+/// They are the ones that `certify_by_sets` finds, without its claims.
 ///
-/// Two counts of sets are taken, as `certify_by_sets` takes them. If both are within `sets`, the answer isn't `Spent`; if the count for
-/// the order isn't, it is.
+/// Two counts of sets are taken, the same as in `certify_by_sets`. If both are within `sets`, the answer isn't `Spent`. If the count for
+/// the order isn't, the answer is `Spent`.
 pub fn best_by_sets(
     alloc: Global,
     counted: &Counted,

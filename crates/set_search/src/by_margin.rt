@@ -10,9 +10,9 @@ use set_walk::Goes;
 /// How far a walk goes.
 #[derive(Clone, Copy)]
 pub(crate) enum Limit {
-    /// By steps below the margin.
+    /// The walk goes by steps below the margin.
     Below(u32),
-    /// By steps at most at the margin.
+    /// The walk goes by steps that are at most the margin.
     AtMost(u32),
 }
 

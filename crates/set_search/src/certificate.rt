@@ -19,7 +19,7 @@ use set_tallies::Counted;
 use set_walk::{WalkEnd, WalkFault, walk_within};
 use std::alloc::Global;
 
-// The sets that are reached below the best margin, or none if they are more than the budget has.
+// The sets that are reached below the best margin, or none if there are more than the budget allows.
 fn cover_in(
     alloc: Global,
     steps: &mut ByMargin<'_>,
@@ -52,16 +52,17 @@ fn cover_in(
     }
 }
 
-/// The canonical certificate of the contest with these records, of which `tab` is the tabulation, found by sets: what can be put in front
-/// of a suffix depends only on its set, so a walk goes into a set once. Three walks are made: for the best margin, for the certificate's
-/// order, and for the sets below that margin, whose steps give the claims.
+/// The canonical certificate of the contest with these records, whose tabulation is `tab`, found by sets. What can be put in front of a
+/// suffix depends only on its set, so a walk goes into a set once. Three walks are made: the first for the best margin, the second for the
+/// certificate's order, and the third for the sets below that margin, whose steps give the claims.
 ///
-/// Two counts of sets are taken, for all alternative winners together: those of suffixes that elect another candidate than the winner,
-/// aren't whole orders, and have a low below the best margin; and those of such suffixes whose low is at most the best margin and that
-/// come before the certificate's order, both read backwards. If one of them is above `sets`, the answer is `Spent`. But if the start
-/// order has hardness 0, the contest isn't decided, and the answer says so whatever the budget. The other error is want of memory.
+/// Two counts of sets are taken, for all alternative winners together. The first counts the sets of suffixes that elect a candidate other
+/// than the winner, aren't whole orders, and have a low below the best margin. The second counts the sets of suffixes that elect a
+/// candidate other than the winner, aren't whole orders, have a low that is at most the best margin, and come before the certificate's
+/// order, both read backwards. If either count is above `sets`, the answer is `Spent`. But if the start order has hardness 0, the contest
+/// isn't decided, and the answer says so whatever the budget. The other error means that memory ran out.
 ///
-/// Time and memory grow with the number of sets, and not with that of suffixes.
+/// Time and memory grow with the number of sets, not with the number of suffixes.
 pub fn certify_by_sets(
     alloc: Global,
     counted: &Counted,

@@ -33,7 +33,7 @@ fn put_step(claims: &mut BTreeMap<Assertion, u32>, step: Score, margin: u32) -> 
     Ok(())
 }
 
-// Puts the assertions of the steps of at least the margin from this set, by candidates who aren't in `closed`, among the claims.
+// Puts among the claims the assertions of the steps from this set that are at least the margin, by candidates who aren't in `closed`.
 fn put_steps(
     claims: &mut BTreeMap<Assertion, u32>,
     tallies: &mut Tallies<'_>,
@@ -59,7 +59,7 @@ fn put_steps(
     Ok(())
 }
 
-/// The claims of the certificate, in the fixed order: `margin` is the best margin, above 0, and these are the sets that are reached below
+/// The claims of the certificate, in the fixed order. `margin` is the best margin, above 0, and these are the sets that are reached below
 /// it.
 pub(crate) fn claims_of(
     alloc: Global,

@@ -11,7 +11,7 @@ use std::fmt;
 /// How a search by sets ends.
 #[derive(Drop)]
 pub enum SetsEnd {
-    /// With the canonical certificate.
+    /// The search finds the canonical certificate.
     Certificate(Certificate),
     /// The best margin is 0: some ways of breaking ties elect another candidate.
     Undecided,
@@ -29,19 +29,19 @@ pub struct BestFound {
 /// How a search by sets for the best margin ends.
 #[derive(Clone, Copy)]
 pub enum BestEnd {
-    /// With the certificate's order.
+    /// The search finds the certificate's order.
     Found(BestFound),
     /// The best margin is 0: some ways of breaking ties elect another candidate.
     Undecided,
 }
 
-/// Why a search by sets doesn't come to its end.
+/// Why a search by sets doesn't finish.
 #[derive(Clone, Copy)]
 pub enum SetsFault {
-    /// More sets are needed than the budget has. With it comes the order that a search starts with, and its hardness, in votes, which is
-    /// above 0.
+    /// More sets are needed than the budget allows. The answer includes the order that a search starts with, and its hardness, in votes,
+    /// which is above 0.
     Spent { order: Order, margin: u32 },
-    /// Memory could not be had.
+    /// There isn't enough memory.
     Memory,
 }
 

@@ -1,4 +1,4 @@
-// The margin that a walk has to go by.
+// The margin that a walk must use.
 ghost use Rattle.std.specs.Prelude.{◌≡◌, ◌<◌, ◌≤◌, ℕ, List, IfOk};
 ghost use Rattle.irv_base.specs.declared.limits.TheConstants.{ROOM};
 ghost use Rattle.set_tallies.specs.Bags.{IsOf};
@@ -11,9 +11,9 @@ use set_tallies::Tallies;
 use std::alloc::Global;
 use std::collections::BinaryHeap;
 
-/// The best margin, or a smaller one by whose steps more sets are reached than the budget has.
+/// Returns the best margin, or a smaller one by whose steps more sets are reached than the budget allows.
 ///
-/// The sets are gone into by the least low first, each once, so the margin only rises, up to the first set that has all candidates.
+/// Each set is gone into once, the one with the smallest low first, so the margin only rises, up to the first set that has all candidates.
 pub(crate) fn level(
     alloc: Global,
     tallies: &mut Tallies<'_>,

@@ -1,5 +1,5 @@
-//! The canonical certificate of a contest, found by walks into each set of candidates once, within a budget of sets. It is the very
-//! certificate that the race and the walks through suffixes find; what differs is which contests the budget suffices for.
+//! The canonical certificate of a contest, found within a budget of sets by walks that go into each set of candidates once. It is the same
+//! certificate that the race and the walks through suffixes find; what differs is the contests for which the budget is large enough.
 #![tactic(auto)]
 
 mod best;

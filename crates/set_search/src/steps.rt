@@ -1,4 +1,4 @@
-// What one more candidate in front of a suffix has against it, from its set alone.
+// The score of one more candidate in front of a suffix, from the suffix's set alone.
 ghost use Rattle.std.specs.Prelude.{◌≡◌, ◌≢◌, ◌<◌, ◌≤◌, ◌^◌, ℕ, false, List, length, IfOk};
 ghost use Rattle.irv_base.specs.Candidates.{has};
 ghost use Rattle.irv_base.specs.declared.limits.TheConstants.{ROOM};
@@ -13,8 +13,8 @@ use irv_base::{CandSet, Candidate, Memory};
 use set_tallies::{Ahead, Tallies};
 use suffix_tree::{Score, neb_margin, offer};
 
-// The score after what `c` in front of a suffix of the set has to do with the other candidate: its NEN over one in the set, or the NEB
-// over it of one outside. The row has the tallies of the set with `c`.
+// The score once `c`, in front of a suffix of the set, is compared with the other candidate: by its NEN over a candidate in the set, or by
+// the NEB over it of a candidate outside. The row has the tallies of the set with `c`.
 fn offer_one(
     score: Score,
     c: Candidate,
@@ -50,7 +50,7 @@ fn offer_one(
     }
 }
 
-// What `c` in front of a suffix of the set has against it, from the tallies of the set with `c`.
+// The score of `c` in front of a suffix of the set, from the tallies of the set with `c`.
 fn offer_all(c: Candidate, set: CandSet, n: u32, ahead: &Ahead, row: &[u32]) -> Score
     requires same { n ≡ ahead.now.n }
     requires room { n ≤ ROOM }
@@ -71,8 +71,8 @@ fn offer_all(c: Candidate, set: CandSet, n: u32, ahead: &Ahead, row: &[u32]) -> 
     score
 }
 
-/// The step of the set with a candidate outside: the greatest margin of the true assertions that refute a suffix of this set with the
-/// candidate in front and not without it, and the first of them that has it. The one error is want of memory.
+/// The step of the set with a candidate outside it: the greatest margin of the true assertions that refute a suffix of this set with the
+/// candidate in front but not without it, and the first of those assertions that has this margin. The only error means that memory ran out.
 pub(crate) fn step_of(
     tallies: &mut Tallies<'_>,
     set: CandSet,

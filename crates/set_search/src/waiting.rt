@@ -1,4 +1,4 @@
-// Sets that one may go into next, of which that of the least margin comes first.
+// The sets that a search may go into next. The one with the smallest margin comes first.
 ghost use Rattle.std.specs.Prelude.{◌≡◌, ◌≤◌, ◌<◌, ◌+◌, ◌^◌, ◌∷◌, ℕ, false, All, List, IfNone, IfSome, OnOk, OnSome, IsPermutation};
 ghost use Rattle.std.proofs.Common.{refl};
 ghost use Rattle.std.specs.Cmp.{eq_by_cmp_equiv, partial_equiv_from_equiv, partial_order_from_agreeing_total};
@@ -16,7 +16,7 @@ use set_tallies::Tallies;
 use std::cmp::Ordering;
 use std::collections::BinaryHeap;
 
-/// A set that one may go into, with the low by which it is reached, in votes, and how many candidates it has.
+/// A set that a search may go into next, with the low at which it is reached, in votes, and its number of candidates.
 #[derive(Clone, Copy)]
 pub(crate) struct Waiting {
     pub margin: u32,
@@ -24,8 +24,8 @@ pub(crate) struct Waiting {
     pub size: u32,
 }
 
-// The least margin is the greatest, so that it leaves a heap first. Of equal margins the larger set does, since it is nearer to one that has
-// all candidates.
+// The smallest margin compares as the greatest, so that it leaves a heap first. Of equal margins the larger set does, since it is nearer to
+// one that has all candidates.
 impl PartialEq for Waiting {
     ghost eq = { eq_by_cmp least_first };
 
@@ -68,7 +68,7 @@ impl PartialOrd for Waiting {
     }
 }
 
-/// Takes the waiting set of the least margin. The others stay.
+/// Takes the waiting set with the smallest margin. The others stay.
 pub(crate) fn take_least(waiting: &mut BinaryHeap<Waiting>) -> Option<Waiting>
     requires heap { IsHeap least_first (heap_items waiting.old) }
     ensures heap { IsHeap least_first (heap_items waiting.new) }
@@ -82,8 +82,7 @@ pub(crate) fn take_least(waiting: &mut BinaryHeap<Waiting>) -> Option<Waiting>
     waiting.pop()
 }
 
-/// Opens the sets that one comes to from this set by one more candidate, of those who aren't in `closed`. This set was
-/// reached with the low `low`.
+/// Opens the sets that this set leads to by one more candidate, of those who aren't in `closed`. This set was reached with the low `low`.
 pub(crate) fn put_next(
     waiting: &mut BinaryHeap<Waiting>,
     tallies: &mut Tallies<'_>,

@@ -30,7 +30,7 @@ module _ (n winner : ℕ) (goes : ℕ → ℕ → Bool) where
   abbrev first : Option (List ℕ)
   first = first_by_sets n winner goes
 
-  -- a whole suffix that walks is an alternative order that does, and the other way round
+  -- a whole suffix that walks is an alternative order that walks, and vice versa
   whole-order : (x : List ℕ) → W x → length x ≡ n → Member x (alternative_orders n winner)
   whole-order x w long = alternative-member n winner w.is.elected x (suffix_whole n x w.is.proper long) w.is.other w.is.elects
 

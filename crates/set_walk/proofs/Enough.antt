@@ -1,4 +1,4 @@
--- What suffices, and what the search and the check have in common.
+-- What is enough, and what the search and the check have in common.
 use Rattle.std.proofs.Common.{◌≡◌, ◌≢◌, ℕ, ◌^◌, ◌<◌, ◌≤◌, Bool, true, not, ◌==◌, inl, inr, ◌↔◌, List, [], ◌∷◌, length, if◌then◌else◌, Option, Some, None, Ok, Err, Contains, refl, sym, ap, subst, arith, le-ltb, le-leb, leb-true, lt-ltb, ltb-true, ne_eqb, le_trans, ◌∙◌}
 use Rattle.std.proofs.lemmas.Bool.{cases_lt, and_parts, and_from, not_from_false}
 use Rattle.assertions.specs.Certificate.{certificate_assertions}
@@ -96,7 +96,7 @@ module _ (n winner margin : ℕ) (records : List (List ℕ)) where
         same = s.same;
       })))
 
-  -- what is below the best is within the margin, where no step from there lies between
+  -- what is below the best is within the margin, if no step from there lies between
   rise : ((c : ℕ) → Contains (all_but n winner) c → margin < step n records 0 c → best ≤ step n records 0 c) →
       ((set c : ℕ) → Contains (standing n winner (within n records margin)) set → Contains (outside n set) c → margin < step n records set c →
       best ≤ step n records set c) →

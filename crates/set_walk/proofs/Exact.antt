@@ -1,4 +1,4 @@
--- What the walk into each set once has seen, exactly.
+-- Exactly what the walk into each set once has seen.
 use Rattle.std.proofs.Common.{◌≡◌, ◌≢◌, ℕ, zero, suc, ◌+◌, ◌-◌, ◌^◌, ◌<◌, ◌≤◌, Bool, true, false, cond, not, ◌&&◌, ◌==◌, nat_lt, inl, inr, ◌⊎◌, List, [], ◌∷◌, ◌++◌, length, length-append, filter, find, if◌then◌else◌, Option, Some, None, Ok, Err, refl, sym, ap, subst, arith, append_assoc, eq-eqb, eqb-true, lt-ltb, ltb-true, ltb-false, le-ltb, ◌∙◌}
 use Rattle.std.specs.List.{range_with_len}
 use Rattle.std.proofs.lemmas.Bool.{cases_Bool, cases_eq, cases_lt, and_parts, and_from, both_ways}
@@ -38,7 +38,7 @@ pub record Inv (n winner : ℕ) (goes : ℕ → ℕ → Bool) (G : List ℕ → 
   pub none : (x : List ℕ) → G x → Walks n winner goes x → length x < n
   pub apart : Distinct seen
 
--- where the walk finds an order, and where it has no room
+-- if the walk finds an order, and if it has no room
 pub record AtFound (n winner sets : ℕ) (goes : ℕ → ℕ → Bool) (order : List ℕ) : Type 0 where
   pub walk : Walks n winner goes order
   pub whole : length order ≡ n
@@ -212,7 +212,7 @@ module _ (n winner sets : ℕ) (goes : ℕ → ℕ → Bool) where
   entry : (t seen : List ℕ) (c : ℕ) → I (Gone t c) seen → I (Before (c ∷ t)) seen
   entry t seen c i = inv-same (Gone t c) (Before (c ∷ t)) seen (λ x w a. gone-before t c x a) (λ x w a. before-gone t c x a) i
 
-  -- ---- what a walk comes to
+  -- ---- the result of a walk
   abbrev pub Outcome : (List ℕ → Type 0) → Seen → Type 0
   Outcome G (Ok seen) = I G seen × (length seen ≤ sets)
   Outcome G (Err (Found order)) = AtFound n winner sets goes order

@@ -1,4 +1,4 @@
--- How many sets stand at most: neither nobody's, nor that of the winner alone, nor that of all.
+-- The maximum number of sets that stand: neither the empty set, nor the set of only the winner, nor the set of all does.
 use Rattle.std.proofs.Common.{◌≡◌, ◌≢◌, ℕ, ◌-◌, ◌^◌, ◌<◌, ◌≤◌, Bool, true, inl, inr, List, [], ◌∷◌, ◌++◌, length, length-append, Ok, refl, sym, ap, subst, arith, le_trans, ◌∙◌}
 use Rattle.std.specs.List.{range_with_len}
 use Rattle.assertions.proofs.Endings.{one_alone}
@@ -27,7 +27,7 @@ module _ (n winner : ℕ) (goes : ℕ → ℕ → Bool) (low : winner < n) (two 
   all-proper : is_suffix n (candidates n) ≡ true
   all-proper = suffix_test (record { apart = distinct-range 0 n; below = λ c m. from_candidates m })
 
-  -- a set that stands has another candidate than the winner, and isn't that of all
+  -- a set that stands has a candidate other than the winner, and isn't the set of all
   not-standing : (cs : List ℕ) → is_suffix n cs ≡ true → ((c : ℕ) → c ≢ winner → Member c cs → length cs < n → ⊥) →
       Member (set_of cs) (standing n winner goes) → ⊥
   not-standing cs proper h m =

@@ -24,7 +24,7 @@ over f (c ∷ cs) seen = on_seen (f c seen) (over f cs)
 abbrev pub is_seen : List ℕ → ℕ → Bool
 is_seen seen set = list_any (λ other. set == other) seen
 
--- from a suffix that lacks k candidates
+-- the walk from a suffix that lacks k candidates
 abbrev pub dive : ℕ → ℕ → (ℕ → ℕ → Bool) → ℕ → List ℕ → List ℕ → Seen
 dive n sets goes zero suffix seen = Err (Found suffix)
 dive n sets goes (suc k) suffix seen =
@@ -39,7 +39,7 @@ dive n sets goes (suc k) suffix seen =
     (candidates n) (seen ++ set_of suffix ∷ [])
     else Err Spent)
 
--- from each last candidate but the winner
+-- the walks from each last candidate other than the winner
 abbrev pub dives : ℕ → ℕ → ℕ → (ℕ → ℕ → Bool) → Seen
 dives n winner sets goes =
     over (λ c s. if goes 0 c then dive n sets goes (n - 1) (c ∷ []) s else Ok s) (all_but n winner) []
@@ -49,7 +49,7 @@ stopped (Found order) = Ok (EndFound order)
 stopped Spent = Err SpentFault
 stopped Memory = Err MemoryFault
 
--- the order that it comes to, if any
+-- the order that the walk reaches, if any
 abbrev pub first_of : Stop → Result (Option (List ℕ)) WalkFault
 first_of (Found order) = Ok (Some order)
 first_of Spent = Err SpentFault

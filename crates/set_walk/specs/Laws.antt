@@ -1,4 +1,4 @@
--- The laws of walks by sets: they give what the definitions over suffixes do.
+-- The laws of walks by sets: these walks give what the definitions over suffixes give.
 use Rattle.std.specs.Prelude.{◌≡◌, ◌≢◌, ◌↔◌, ℕ, ◌-◌, ◌<◌, ◌≤◌, ◌^◌, max, Bool, not, List, ◌∷◌, length, find, None, Contains, IsTrue, nat_lt, nat_le, Ok}
 use Rattle.std.specs.List.{list_any}
 use Rattle.irv_base.specs.Candidates.{all_but, set_of}
@@ -14,7 +14,7 @@ use Rattle.set_walk.specs.Dives.{dives, walked}
 use Rattle.set_walk.specs.Answers.{first_within}
 use Rattle.set_walk.specs.Bests.{best_by_sets, order_by_sets, assertions_by_sets}
 
--- one more candidate raises the low to its step, if that is more
+-- one more candidate raises the low to its step, if the step is more
 abbrev pub LowBySteps : Type 0
 LowBySteps =
     (n : ℕ) (records : List (List ℕ)) (c : ℕ) (suffix : List ℕ) → IsTrue (is_suffix n (c ∷ suffix)) →
@@ -50,7 +50,7 @@ StandingBySets =
     find (λ order. not (list_any (λ a. refutes a order) list)) (alternative_orders n winner)
     ≡ first_by_sets n winner (passes list)
 
--- a list of assertions covers exactly if there is no walk that it lets pass
+-- a list of assertions covers exactly if no walk gets past it
 abbrev pub CoversBySets : Type 0
 CoversBySets =
     (n winner : ℕ) (list : List Assertion) →
@@ -65,7 +65,7 @@ StandingIs =
     × ((c : ℕ) × (c ≢ winner) × Elects suffix c)
     × IsTrue (not (list_any (λ a. refutes a suffix) list)) × (set_of suffix ≡ set)))
 
--- the certificate's sets are those below its margin: `check` asks of no more sets than the search
+-- the certificate's sets are those below its margin: `check` needs no more sets than the search
 abbrev pub CertificateStands : Type 0
 CertificateStands =
     (n winner : ℕ) (records : List (List ℕ)) → 0 < best_margin n winner (low n records) →
@@ -73,26 +73,26 @@ CertificateStands =
     ≡ standing n winner
     (λ set c. nat_lt (step n records set c) (best_margin n winner (low n records)))
 
--- nobody's set isn't reached, nor that of the winner alone, nor that of all candidates
+-- the empty set, the set of only the winner and the set of all candidates are never reached
 abbrev pub StandingAreFew : Type 0
 StandingAreFew =
     (n winner : ℕ) (goes : ℕ → ℕ → Bool) → winner < n → 1 < n →
     length (standing n winner goes) ≤ 2 ^ n - 3
 
--- the walk into each set once answers by the sets that count: `Spent` exactly if they are more than the budget has
+-- the walk into each set once answers by the sets that count: `Spent` exactly if there are more than the budget allows
 abbrev pub WalkIs : Type 0
 WalkIs =
     (n winner sets : ℕ) (goes : ℕ → ℕ → Bool) → 0 < n →
     walked (dives n winner sets goes) ≡ first_within n winner sets goes
 
--- what counts is reached, and if no order walks what is reached counts
+-- a set that counts is reached; if no order walks, a set that is reached counts
 abbrev pub CountedStand : Type 0
 CountedStand =
     (n winner : ℕ) (goes : ℕ → ℕ → Bool) →
     (length (counted n winner goes) ≤ length (standing n winner goes))
     × (first_by_sets n winner goes ≡ None → counted n winner goes ≡ standing n winner goes)
 
--- this many sets are never spent
+-- a budget of this many sets never runs out
 abbrev pub NeverSpent : Type 0
 NeverSpent =
     (n winner sets : ℕ) (goes : ℕ → ℕ → Bool) → winner < n → 1 < n → 2 ^ n - 3 ≤ sets →
@@ -109,14 +109,14 @@ CertificateCovered =
     ≤ sets →
     first_within n winner sets (passes (certificate_assertions n records winner)) ≡ Ok None
 
--- the best margin is the least by whose steps an order walks
+-- the best margin is the smallest by whose steps an order walks
 abbrev pub LeastIsBest : Type 0
 LeastIsBest =
     (n winner margin : ℕ) (records : List (List ℕ)) → winner < n → 1 < n →
     ((order_by_sets n winner (step n records) margin ≡ None)
     ↔ (margin < best_by_sets n winner (step n records)))
 
--- rising to the best margin, a walk within a smaller one counts no more than the sets that are reached below the best
+-- as the margin rises to the best, a walk within a smaller margin counts at most the sets that are reached below the best
 abbrev pub SearchCounts : Type 0
 SearchCounts =
     (n winner margin : ℕ) (records : List (List ℕ)) →
@@ -126,7 +126,7 @@ SearchCounts =
     (standing n winner
     (λ set c. nat_lt (step n records set c) (best_margin n winner (low n records))))
 
--- and if no step from these sets, or to a last candidate, lies between the two margins, it counts them all
+-- and if no step from these sets, or to a last candidate, lies between the two margins, the walk counts them all
 abbrev pub SearchCountsAll : Type 0
 SearchCountsAll =
     (n winner margin : ℕ) (records : List (List ℕ)) → winner < n → 1 < n →

@@ -1,4 +1,4 @@
-//! Worked examples: the definitions at small contests, computed by the checker.
+//! Worked examples: the definitions for small contests, computed by the checker.
 ghost use Rattle.std.specs.Prelude.{◌≡◌, [], ◌∷◌, Some, None, Ok, Err, length};
 ghost use Rattle.assertions.specs.Contests as contests;
 ghost use Rattle.assertions.specs.Steps.{step, step_refuter};
@@ -9,7 +9,7 @@ ghost use Rattle.set_walk.specs.Bests.{best_by_sets, order_by_sets, assertions_b
 use crate::WalkFault;
 use assertions::Assertion;
 
-/// Five ballots 0, four 1,2 and three 2,1. The winner is 1.
+/// Five ballots are 0, four are 1,2 and three are 2,1. The winner is 1.
 pub fn three_candidates()
     ensures alone { step 3 contests.three_candidates 0 2 ≡ 1 }
     ensures by { step_refuter 3 contests.three_candidates 0 2 ≡ Some (Assertion.Neb 1 2) }

@@ -4,15 +4,15 @@ ghost use Rattle.irv_base.specs.Candidates.{has};
 
 use irv_base::{CandSet, Candidate, Memory};
 
-/// A test of steps: may this candidate be put in front of a suffix of this set?
+/// A test of steps: whether a given candidate may be put in front of a suffix of a given set.
 pub trait Goes {
-    /// How many candidates the contest has.
+    /// The number of candidates in the contest.
     ghost size: { Self → ℕ };
 
-    /// Whether this is the test that it answers by.
+    /// Whether the test answers by this function.
     ghost is_by: { Self → (ℕ → ℕ → Bool) → Type 0 };
 
-    /// Whether the candidate, who is outside, may be put in front of the set. The one error is want of memory.
+    /// Whether the candidate, who is outside the set, may be put in front of it. The only error means that memory ran out.
     fn goes(&mut self, set: CandSet, c: Candidate) -> Result<bool, Memory>
         requires set { set < 2 ^ size self.old }
         requires below { c < size self.old }

@@ -17,18 +17,18 @@ use std::fmt;
 /// How a walk ends.
 #[derive(Drop)]
 pub enum WalkEnd {
-    /// With the least order, read backwards, that walks.
+    /// It finds the least order, read backwards, that walks.
     Found(Order),
-    /// Without one. It was in these sets, in each of them once.
+    /// It finds no order. It went into these sets, each of them once.
     Ended(IndexSet<CandSet>),
 }
 
-/// Why a walk doesn't come to its end.
+/// Why a walk doesn't finish.
 #[derive(Clone, Copy, Debug, PartialEq, Eq)]
 pub enum WalkFault {
-    /// More sets count than the budget has.
+    /// More sets count than the budget allows.
     Spent,
-    /// Memory could not be had.
+    /// There isn't enough memory.
     Memory,
 }
 
@@ -51,14 +51,14 @@ impl From<Memory> for WalkFault {
     }
 }
 
-/// Why a walk stops on its way.
+/// Why a walk stops before its end.
 #[derive(Drop)]
 pub enum Stop {
     /// A whole order walks.
     Found(Order),
-    /// There is a set more than the budget has.
+    /// There is one set more than the budget allows.
     Spent,
-    /// Memory could not be had.
+    /// There isn't enough memory.
     Memory,
 }
 
@@ -78,7 +78,7 @@ impl<T: Drop> From<AllocFailed<T>> for Stop {
     }
 }
 
-// Walks from the suffix into the sets that weren't seen.
+// Walks from the suffix into the sets that it hasn't seen.
 fn dive<T: Goes>(
     test: &mut T,
     n: u32,
@@ -123,7 +123,7 @@ fn dive<T: Goes>(
     Ok(())
 }
 
-// What the walk comes to.
+// What the walk results in.
 fn stopped(stop: Stop) -> Result<WalkEnd, WalkFault>
     ensures { result ≡ stopped stop }
 {
@@ -134,14 +134,14 @@ fn stopped(stop: Stop) -> Result<WalkEnd, WalkFault>
     }
 }
 
-/// The walk of the suffixes of orders of `n` candidates that elect another one than `winner`, by a test of steps: to the least order,
-/// read backwards, that walks, or through all sets that it reaches.
+/// Walks the suffixes of orders of `n` candidates that elect a candidate other than `winner`, by a test of steps. The walk goes to the
+/// least order, read backwards, that walks, or through all sets that it reaches.
 ///
-/// A set counts if a suffix of it walks that elects another candidate than the winner, isn't whole, and comes before that order, if there
-/// is one, both read backwards. If more than `sets` sets count, the answer is `Spent`. The other error is want of memory.
+/// A set counts if a suffix of it walks that elects a candidate other than the winner, isn't whole, and comes before that order, if there
+/// is one, both read backwards. If more than `sets` sets count, the answer is `Spent`. The other error means that memory ran out.
 ///
-/// Each set is walked into once: the time grows with the sets that count, and not with the suffixes. The recursion is as deep as there
-/// are candidates.
+/// The walk goes into each set once, so the time grows with the number of sets that count, not with the number of suffixes. The recursion
+/// is as deep as the number of candidates.
 pub fn walk_within<T: Goes>(
     alloc: Global,
     test: &mut T,

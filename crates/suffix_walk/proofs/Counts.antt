@@ -36,7 +36,7 @@ count-filter {X} p q (x ∷ xs) = go (q x) (count-filter p q xs) ∙ sym (count-
   go true e = count-cons p x (filter q xs) ∙ ap (λ k. (if p x then 1 else 0) + k) e
   go false e = e ∙ omega arith
 
--- ---- what comes before the first that passes
+-- ---- what comes before the first suffix that passes
 abbrev pub until : (List ℕ → Bool) → List (List ℕ) → List (List ℕ)
 until q [] = []
 until q (x ∷ xs) = if q x then [] else x ∷ until q xs

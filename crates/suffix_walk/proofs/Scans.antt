@@ -1,4 +1,4 @@
--- A scan of the alternative winners answers what a search is to answer.
+-- A scan of the alternative winners gives the answer that a search must give.
 use Rattle.std.proofs.Common.{◌≡◌, ℕ, zero, suc, ◌+◌, ◌-◌, ◌<◌, ◌≤◌, Bool, true, false, cond, not, ◌&&◌, ◌==◌, nat_lt, inl, inr, List, [], ◌∷◌, ◌++◌, length, filter, flat_map, find, count_by, reverse, if◌then◌else◌, Option, Some, None, Result, Ok, Err, refl, sym, ap, subst, arith, lt-ltb, le-ltb, ne_eqb, eq-eqb, eqb-true, ◌∙◌}
 use Rattle.std.specs.List.{range_with_len}
 use Rattle.std.specs.Option.{option_or}
@@ -58,7 +58,7 @@ find-whole n kept (suc k) t long =
     (λ c. elim (cases_Bool (is_in t c)) [ inl in' ↦ rw in' refl | inr out ↦ rw out (find-whole n kept k (c ∷ t) (omega arith)) ])
     ∙ sym (find-skip (is_whole n kept) t (flat_map (λ c. if is_in t c then [] else suffixes_ending n k (c ∷ t)) (candidates n)) skip)
 
--- ---- what stands before the first of a sorted list
+-- ---- what is before the first of a sorted list
 sorted-split : (s : List ℕ) (xs rest : List (List ℕ)) → Sorted IsBefore (xs ++ s ∷ rest) → ((x : List ℕ) → Member x xs → IsBefore x s) ×
     ((y : List ℕ) → Member y rest → IsBefore s y)
 sorted-split s [] rest (more f r) = (λ x m. absurd (member_nil m), f)
@@ -100,7 +100,7 @@ module _ (n : ℕ) (kept : List ℕ → Bool) where
       ]) in
       kept_count-is (Some s) c ∙ ap (count_by (counts (Some s))) e ∙ count-append (counts (Some s)) (until (is_whole n kept) (piece c)) (s ∷ rest) ∙ omega arith
 
-  -- a piece before it, or where there is none
+  -- a piece before it, or if there is none
   count-earlier : (order : Option (List ℕ)) (c : ℕ) → find (is_whole n kept) (piece c) ≡ None → ((x : List ℕ) → Member x (piece c) → is_passed order x ≡ true) →
       kept_count n kept order c ≡ seen n kept (piece c)
   count-earlier order c h before =

@@ -1,4 +1,4 @@
--- A walk over a list in which nothing whole is kept: it counts all that are kept, from whichever count on.
+-- A walk over a list in which nothing whole is kept: it counts all suffixes that are kept, from any count on.
 use Rattle.std.proofs.Common.{◌≡◌, ℕ, ◌+◌, ◌<◌, ◌≤◌, Bool, true, false, nat_lt, nat_le, inl, inr, List, [], ◌∷◌, length, count_by, if◌then◌else◌, Result, Ok, Err, refl, sym, ap, subst, arith, ltb-true, ltb-false, le-leb, ◌∙◌}
 use Rattle.std.proofs.lemmas.Bool.{cases_Bool, both_ways, lt-leb}
 use Rattle.irv_base.proofs.Members.{Member, here, there, member_cases, member_nil}
@@ -11,7 +11,7 @@ module _ (n nodes : ℕ) (kept : List ℕ → Bool) where
   abbrev pub AreParts : List (List ℕ) → Type 0
   AreParts xs = (x : List ℕ) → Member x xs → kept x ≡ true → length x < n
 
-  -- as far as the budget has it
+  -- as far as the budget allows
   abbrev pub within : ℕ → Result ℕ Stop
   within count = if nat_le count nodes then Ok count else Err Spent
 
@@ -21,7 +21,7 @@ module _ (n nodes : ℕ) (kept : List ℕ → Bool) where
   count-out : (s : List ℕ) (xs : List (List ℕ)) → kept s ≡ false → count_by kept (s ∷ xs) ≡ count_by kept xs
   count-out s xs h = count-cons kept s xs ∙ ap (λ b. (if b then 1 else 0) + count_by kept xs) h ∙ omega arith
 
-  -- a walk that comes to its end
+  -- a walk that finishes
   pub from_walked : (count : ℕ) (xs : List (List ℕ)) (m : ℕ) → walked n nodes kept count xs ≡ Ok m → AreParts xs × (m ≡ count + count_by kept xs)
   from_walked count [] m e = (λ x k u. absurd (member_nil k), let same : count ≡ m = cc in omega arith)
   from_walked count (s ∷ xs) m e =

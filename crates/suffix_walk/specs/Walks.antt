@@ -3,7 +3,7 @@ use Rattle.std.specs.Prelude.{ℕ, ◌+◌, Bool, nat_lt, if◌then◌else◌, L
 use Rattle.suffix_walk.specs.declared.walk.Stop.{Stop}
 use Rattle.suffix_walk.specs.declared.walk.Stop.TheVariants.{Found, Spent}
 
--- counts those that are kept, to the first that is whole, and stops if there are more than nodes
+-- counts the suffixes that are kept, up to the first that is whole, and stops if there are more than nodes
 abbrev pub walked : ℕ → ℕ → (List ℕ → Bool) → ℕ → List (List ℕ) → Result ℕ Stop
 walked n nodes kept count [] = Ok count
 walked n nodes kept count (suffix ∷ rest) =

@@ -6,14 +6,14 @@ ghost use Rattle.suffix_walk.specs.Kept.{is_parent_kept};
 
 use irv_base::Suffix;
 
-/// A test of suffixes. If it keeps a suffix, it keeps each shorter one that this ends in.
+/// A test of suffixes. If it keeps a suffix, it keeps each shorter suffix that this one ends in.
 pub trait Keeps {
-    /// How many candidates the contest has.
+    /// The number of candidates in the contest.
     ghost size: { Self → ℕ };
 
     ghost kept: { Self → List ℕ → Bool };
 
-    /// Whether it keeps a suffix, if it keeps its parent: the suffix without its first candidate.
+    /// Whether the test keeps a suffix, given that it keeps the suffix's parent: the suffix without its first candidate.
     fn keeps(&self, suffix: &Suffix) -> bool
         requires room { size self.now ≤ ROOM }
         requires proper { IsTrue (is_suffix (size self.now) suffix.now) }

@@ -1,4 +1,4 @@
-// A walk in the order of the suffixes read backwards, to the first whole order that is kept.
+// A walk through the suffixes, in the order of the suffixes read backwards, up to the first whole order that is kept.
 ghost use Rattle.std.specs.Prelude.{◌≡◌, ◌<◌, ◌≤◌, length, IsTrue};
 ghost use Rattle.irv_base.specs.Suffixes.{is_suffix};
 ghost use Rattle.irv_base.specs.declared.limits.TheConstants.{ROOM};
@@ -12,13 +12,13 @@ use irv_base::{Candidate, Order, Suffix};
 /// Why a walk stops before its end.
 #[derive(Drop)]
 pub enum Stop {
-    /// A whole order is kept.
+    /// The test keeps a whole order.
     Found(Order),
-    /// More suffixes are kept than the budget has.
+    /// The test keeps more suffixes than the budget allows.
     Spent,
 }
 
-// Walks the suffixes that end in this one, and adds those that are kept, and aren't whole orders, to the count.
+// Walks the suffixes that end in this one, and adds to the count those that are kept and aren't whole orders.
 fn walk<T: Keeps>(test: &T, n: u32, nodes: u32, suffix: &Suffix, count: u32) -> Result<u32, Stop>
     requires size { n ≡ T.size test.now }
     requires number { 1 ≤ n }
@@ -47,7 +47,7 @@ fn walk<T: Keeps>(test: &T, n: u32, nodes: u32, suffix: &Suffix, count: u32) -> 
     Ok(seen)
 }
 
-// The order that was found, or the candidate in whom the walk's suffixes end.
+// The order that was found, or the candidate that the walk's suffixes end in.
 fn stopped(stop: Stop, last: Candidate) -> Result<Option<Order>, Candidate>
     ensures { result ≡ stopped_at last stop }
 {
@@ -57,10 +57,10 @@ fn stopped(stop: Stop, last: Candidate) -> Result<Option<Order>, Candidate>
     }
 }
 
-/// The least order, read backwards, that the test keeps and that elects another candidate than the winner, or none.
+/// The least order, read backwards, that the test keeps and that elects a candidate other than the winner, or none.
 ///
-/// A suffix counts for the candidate whom it elects if it is kept, is no whole order, and comes before that order, both read backwards.
-/// If more than `nodes` count for a candidate, the least such candidate is the error.
+/// A suffix counts for the candidate it elects if it is kept, isn't a whole order, and comes before that order, both read backwards. If
+/// more than `nodes` suffixes count for a candidate, the error is the least candidate for whom they do.
 pub fn first_within<T: Keeps>(
     test: &T,
     n: u32,

@@ -4,7 +4,7 @@ use Rattle.csv_rows.specs.Fields.{numbered}
 use Rattle.csv_rows.specs.Lines.{is_plain}
 use Rattle.csv_rows.proofs.plain_rows.next_line.Given as goal
 
--- the lines that were passed over have no number
+-- the lines that were skipped have no number
 abbrev pub invariant-loop-left : goal.invariant-loop-left
 invariant-loop-left l = record {
   plain : IsTrue (is_plain l.left);

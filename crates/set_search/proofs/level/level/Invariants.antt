@@ -14,6 +14,6 @@ invariant-loop-next l = record {
       Searched l.fn.tallies.bag.n l.fn.winner records l.level l.seen.keys (heap_items l.waiting);
 }
 
--- a set more was gone into, or one waiting set less is there
+-- one more set was gone into, or one fewer set is waiting
 abbrev pub decreases-loop-next : goal.decreases-loop-next
 decreases-loop-next l = (l.sets - length l.seen.keys) * 33 + heap_len l.waiting

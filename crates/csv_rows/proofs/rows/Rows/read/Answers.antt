@@ -6,7 +6,7 @@ use Rattle.csv_rows.specs.Rows.{Fields, records_left, bytes_left}
 use Rattle.csv_rows.proofs.Reading.{TakesOff, read-takes_off, read-between}
 use Rattle.csv_rows.proofs.rows.Rows.read.Goals as goal
 
--- what is left after a read that takes a record off or comes to the end
+-- what is left after a read that takes a record or reaches the end
 left : (a b : Reader (Bor (List ℕ))) (found : Bool) (f : Fields) → TakesOff a.state b.state (bytes_left a) (bytes_left b) found f
     → records_left false a ≡ (if found then f ∷ records_left (not found) b else [])
 left a b true f t = t.records

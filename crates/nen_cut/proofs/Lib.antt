@@ -1,4 +1,5 @@
 pub mod Enough
+pub mod ByWinners
 pub mod Leading
 pub mod Cutting
 pub mod Short

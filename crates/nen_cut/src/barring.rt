@@ -1,7 +1,6 @@
 // The true NEBs of a margin, and which steps they bar.
-ghost use Rattle.std.specs.Prelude.{◌≡◌, ◌<◌, ◌≤◌, ℕ, List, not, ◌&&◌, true, false};
+ghost use Rattle.std.specs.Prelude.{◌≡◌, ◌<◌, ℕ, List, not, ◌&&◌, true, false};
 ghost use Rattle.irv_base.specs.Candidates.{has};
-ghost use Rattle.irv_base.specs.declared.limits.TheConstants.{ROOM};
 ghost use Rattle.assertions.specs.declared.assertion.Assertion.TheVariants.{Neb};
 ghost use Rattle.set_tallies.specs.Bags.{AreOf};
 ghost use Rattle.fewest.specs.Flows.{is_barred};
@@ -43,18 +42,16 @@ fn bars(ahead: &Ahead, w: Candidate, c: Candidate, with: CandSet, least: u32) ->
 }
 
 /// Whether a true NEB of at least this margin refutes the step of the candidate from the set: whether it is over the candidate, and its
-/// winner is outside the set with the candidate.
-pub(crate) fn is_barred(ahead: &Ahead, n: u32, set: CandSet, c: Candidate, least: u32) -> bool
-    requires same { n ≡ ahead.now.n }
-    requires room { n ≤ ROOM }
-    requires below { c < n }
+/// winner is outside the set with the candidate. Only the winners of true NEBs are tried, and there are few if a contest is close.
+pub(crate) fn is_barred(ahead: &Ahead, set: CandSet, c: Candidate, least: u32) -> bool
+    requires below { c < ahead.now.n }
     requires outside { has set c ≡ false }
     ensures { (records : List (List ℕ)) → AreOf ahead.now records
-        → result ≡ is_barred n records least set c }
+        → result ≡ is_barred ahead.now.n records least set c }
 {
     let with = set.with(c);
-    for w in 0..n as u8 {
-        if bars(ahead, Candidate(w), c, with, least) {
+    for w in ahead.neb_winners(c) {
+        if bars(ahead, *w, c, with, least) {
             return true;
         }
     }

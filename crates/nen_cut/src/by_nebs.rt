@@ -30,8 +30,7 @@ impl<'t, 'b> Goes for ByNebs<'t, 'b> {
         × (may ≡ passes_short t.tallies.now.bag.n records t.least t.all) };
 
     fn goes(&mut self, set: CandSet, c: Candidate) -> Result<bool, Memory> {
-        let n = self.tallies.candidates();
-        let barred = is_barred(self.tallies.ahead(), n, set, c, self.least);
+        let barred = is_barred(self.tallies.ahead(), set, c, self.least);
         Ok(!barred && set.with(c) != self.all)
     }
 }

@@ -49,8 +49,7 @@ impl<'b> ByTallies<'b> {
             → result ≡ stands self.now.tallies.bag.n self.now.winner records self.now.least set c }
     {
         let is_first = set.is_empty() && c == self.winner;
-        let n = self.tallies.candidates();
-        !is_first && !is_barred(self.tallies.ahead(), n, set, c, self.least)
+        !is_first && !is_barred(self.tallies.ahead(), set, c, self.least)
     }
 }
 

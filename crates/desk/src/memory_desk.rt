@@ -175,7 +175,7 @@ impl Desk for MemoryDesk {
         ensures served { self.new.served ≡ after_read result self.old.served }
         ensures cause { HasCause self.old.faults self.new.faults result }
 
-        // It gives as many bytes as there are left and there is room for.
+        // It gives as many bytes as there is room for.
         ensures count { IfOk result (λ n. n ≡ min (length into.new) (length self.old.left)) }
 
         // Exactly the calls that are to fail do fail, and exactly these are faults.

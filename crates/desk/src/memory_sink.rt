@@ -37,7 +37,7 @@ impl Model for MemorySink {
 }
 
 impl MemorySink {
-    /// Creates a sink that takes at most this many bytes. Its writes are counted from 1. Exactly those writes fail whose numbers
+    /// Creates a sink with room for this many bytes. Its writes are counted from 1. Exactly those writes fail whose numbers
     /// are in `fails` or whose piece doesn't fit into the room that is left.
     pub fn new(alloc: Global, room: u32, fails: Vec<u32>) -> Result<MemorySink, Memory>
         ensures { IfOk result (λ sink. sink ≡ record {

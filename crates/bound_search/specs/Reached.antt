@@ -111,7 +111,7 @@ IsCostly bag first nodes tails number =
 abbrev pub left_open : WorkerEnd → List ℕ
 left_open e = e.spent.items ++ e.skipped.items
 
--- a piece that is left open is out of budget if none was left open before, and skipped otherwise
+-- a piece that is left open is out of budget if none was before, and skipped otherwise
 abbrev pub spent_with : Bool → List ℕ → ℕ → List ℕ
 spent_with true spent piece = spent
 spent_with false [] piece = piece ∷ []

@@ -15,7 +15,7 @@ use std::marker::Brand;
 use std::sync::ledger::Blank;
 use suffix_tree::Tail;
 
-// Notes the piece if it was left open: as out of budget if none was left open before, and as skipped otherwise.
+// Notes the piece if it was left open: as out of budget if none was before, and as skipped otherwise.
 fn note(
     spent: &mut Vec<u32>,
     skipped: &mut Vec<u32>,

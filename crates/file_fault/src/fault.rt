@@ -8,7 +8,7 @@ use std::alloc::AllocFailed;
 use std::error::Error;
 use std::fmt;
 
-/// Why a file isn't read. `R` has the rules of its kind of file.
+/// Why a file of a kind that has the rules `R` isn't read.
 #[derive(Clone, Copy, Debug, PartialEq, Eq)]
 pub enum Fault<R> {
     /// The file breaks `rule` at the place `at`: the number of a record or an assertion, from 1, or 0 for an assertion file's own

@@ -31,7 +31,7 @@ pub const MOST_FILE_BYTES: u64 = 67_108_864;
 /// The maximum number of bytes in a name.
 pub const MOST_NAME_BYTES: usize = 64;
 
-/// The maximum number of workers of a search, of a trial, who also count its ballots, and of an audit of all contests.
+/// The maximum number of workers of a search or a trial, who also count its ballots, and of an audit of all contests.
 pub const MOST_WORKERS: u32 = 8;
 
 /// The maximum number of digits of a number in a file or among the words of a call.

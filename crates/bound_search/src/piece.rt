@@ -21,7 +21,7 @@ pub struct Searched {
     pub expanded: u32,
     /// The number of times the worker looked at the bound.
     pub looks: u64,
-    /// Whether the piece was closed. If not, it ran out of budget.
+    /// Whether the piece was closed, as opposed to the budget being spent.
     pub closed: bool,
 }
 

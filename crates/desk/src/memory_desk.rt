@@ -56,7 +56,7 @@ impl Model for MemoryDesk {
 }
 
 impl MemoryDesk {
-    /// Counts the calls of `begin` and `read` together, from 1. Exactly the calls whose numbers are in `fails` fail.
+    /// The calls of `begin` and `read` are counted together, from 1. Exactly the calls whose numbers are in `fails` fail.
     pub fn new(files: Vec<Named>, fails: Vec<u32>) -> MemoryDesk
         ensures { result ≡ record {
           files = files_of files.items;

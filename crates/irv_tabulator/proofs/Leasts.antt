@@ -218,7 +218,7 @@ module _ (n : ℕ) (records : List (List ℕ)) (row : List ℕ) (set c : ℕ) (r
       (members set)
       (λ d m. ap₂ (λ x y. x == y) (value d (r.rest.same d ∙ in-from_member m) ∙ ap (λ s. tally records s d) (sym whole)) is-least)
 
-  -- those who share the least tally, however they are listed
+  -- those who share the smallest tally, however they are listed
   pub tied-of : (tied : ℕ) (rest : List ℕ) → IsRest set rest → tied ≡ set_of (filter (λ d. slice_index row d == slice_index row c) (members set)) →
       tied ≡ set_of (sharing_least records rest)
   tied-of tied rest s who =

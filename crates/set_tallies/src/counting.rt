@@ -39,7 +39,7 @@ impl Model for Counting {
 }
 
 impl Counting {
-    /// Starts with no rankings, of `n` candidates.
+    /// Starts a counting of rankings of `n` candidates, with no rankings yet.
     pub fn nothing(alloc: Global, n: u32) -> Result<Counting, Memory>
         requires { n ≤ ALWAYS_SUMMED }
         ensures candidates { IfOk result (λ none. none.n ≡ n) }

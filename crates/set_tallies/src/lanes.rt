@@ -7,7 +7,7 @@ ghost use Rattle.set_tallies.specs.Listings.{paired};
 
 use std::simd::prelude::*;
 
-/// The number of entries that are looked at at once.
+/// The number of entries that are processed at once.
 pub const LANES: usize = 8;
 
 // The numbers of those entries that have nobody of the set, and 0 for the others.

@@ -12,7 +12,7 @@ use std::alloc::Global;
 use std::thread;
 use std::thread::Threads;
 
-/// Fewer records than this are counted sooner than a thread is started for them.
+/// Counting fewer records than this takes less time than starting a thread for them.
 pub const FEWEST_IN_A_SHARE: usize = 4096;
 
 // The number of records that each worker counts, except the last, who counts those that are left. It is no smaller than the number

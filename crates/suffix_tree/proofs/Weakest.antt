@@ -29,7 +29,7 @@ before-least c l d set (Some b) h k = elim (cases_eq l d) [
   | inr ne ↦ stands_before-chain (key (Nen c l set)) (key (Nen c d set)) (key b) (nen-before c l d set (omega (arith, ne))) k
 ]
 
--- a smaller number is better than what a greater one is better than
+-- if a greater number is better than something, so is a smaller number
 module _ (c set for_winner : ℕ) where
   abbrev better : Score → ℕ → Bool
   better s k = is_better s (for_winner - k / 2 ^ 8) (Nen c (k % 2 ^ 8) set)

@@ -1,4 +1,5 @@
--- Decided contests: all possible orders elect one candidate exactly if a true assertion refutes each order that elects another.
+-- Decided contests: all possible orders elect one candidate exactly if each order that elects another is
+-- refuted by a true assertion.
 use Rattle.std.proofs.Common.{◌≡◌, ◌≢◌, ◌↔◌, ℕ, ◌<◌, ◌≤◌, ◌||◌, ◌==◌, not, Bool, true, false, nat_le, inl, inr, List, [], ◌∷◌, ◌++◌, map, reverse, refl, sym, ap, subst, arith, append_assoc, eq-eqb, leb-false, lt-ltb, ltb-true, ◌∙◌}
 use Rattle.std.proofs.lemmas.Bool.{and_parts, and_from, and_cases, cases_eq, cases_lt, eqb-false, ne_eqb, not-true}
 use Rattle.std.proofs.lemmas.List.{reverse-append, reverse-reverse}

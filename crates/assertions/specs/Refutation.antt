@@ -17,7 +17,7 @@ abbrev pub refutes : Assertion → List ℕ → Bool
 refutes (Neb w l) suffix = is_in suffix l && not (is_in (part_from suffix l) w)
 refutes (Nen w l rest) suffix = is_in suffix w && (set_of (part_from suffix w) == rest)
 
--- one of the assertions refutes each order that elects another candidate
+-- each order that elects another candidate is refuted by one of the assertions
 abbrev pub covers : ℕ → ℕ → List Assertion → Bool
 covers n winner claims =
     list_all (λ order. list_any (λ a. refutes a order) claims) (alternative_orders n winner)

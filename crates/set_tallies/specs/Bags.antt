@@ -25,7 +25,7 @@ all_votes n votes = map (λ set. map (votes set) (candidates n)) (candidates (2 
 abbrev pub everyone : ℕ → ℕ
 everyone n = 2 ^ n - 1
 
--- the bag is one of these records, in whatever order: it has their number, their tallies, and the two numbers of NEB's margin
+-- the bag is a bag of these records, in whatever order: it has their number, their tallies, and the two numbers of NEB's margin
 pub record IsOf (bag : Kept) (records : List (List ℕ)) : Type 0 where
   pub all : bag.records ≡ length records
   pub tallies : (set c : ℕ) → set < 2 ^ bag.n → c < bag.n → has set c ≡ true →

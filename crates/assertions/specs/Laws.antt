@@ -37,7 +37,7 @@ NebAgainst =
 abbrev pub AssorterIs : Type 0
 AssorterIs = (a : Assertion) (ranking : List ℕ) → assorter_value a ranking ≤ 2
 
--- the sum of the amounts by which the assorter values exceed 1 is the margin
+-- the sum of the assorter values, each minus 1, is the margin
 abbrev pub AssorterSums : Type 0
 AssorterSums =
     (n : ℕ) (records : List (List ℕ)) (a : Assertion) → IsTrue (is_proper n a) →

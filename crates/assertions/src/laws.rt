@@ -16,7 +16,7 @@ pub fn assorter_is()
     ensures { AssorterIs }
 {}
 
-/// The margin is the sum of the amounts by which the assorter values exceed 1.
+/// The margin is the sum of the assorter values, each minus 1.
 pub fn assorter_sums()
     ensures { AssorterSums }
 {}

@@ -1,4 +1,4 @@
--- Suffixes that are scored only as far as they are below a limit.
+-- Suffixes that are scored as far as they are below a limit.
 use Rattle.std.proofs.Common.{◌≡◌, ◌==◌, ◌&&◌, ◌||◌, ℕ, suc, ◌+◌, ◌-◌, ◌^◌, ◌<◌, ◌≤◌, nat_lt, Bool, true, false, not, inl, inr, Option, Some, None, List, [], ◌∷◌, ◌++◌, map, filter, cond, get_or, All, refl, sym, subst, ap, ap₂, arith, ltb-true, eqb-true, append-nil, le_trans, ◌∙◌}
 use Rattle.std.proofs.lemmas.Bool.{and_parts, le-ltb, or_cases}
 use Rattle.std.proofs.lemmas.List.{map-append}

@@ -1,4 +1,4 @@
-// Suffixes that are needed only if their low is below a limit.
+// Suffixes that are needed if their low is below a limit.
 ghost use Rattle.std.specs.Prelude.{◌≡◌, ◌<◌, ◌+◌, IfOk, IsFalse};
 ghost use Rattle.irv_base.specs.Candidates.{is_in};
 ghost use Rattle.suffix_tree.specs.Suffixes.{with_front, children};

@@ -113,8 +113,8 @@ fn child_score(parent: &Scored, c: Candidate, tallies: &mut Tallies) -> Result<S
     }
 }
 
-/// Returns the suffix with one more candidate in front, scored from the suffix without it. From one row of tallies, the candidate
-/// adds the NEBs over it of those outside, and its NENs over those after it. The only error is lack of memory.
+/// Returns the suffix with one more candidate in front, scored from the suffix without it. The candidate adds the NEBs over it of
+/// those outside, and its NENs over those after it, from one row of tallies. The only error is lack of memory.
 pub fn child(parent: &Scored, c: Candidate, tallies: &mut Tallies) -> Result<Scored, Memory>
     requires below { c < parent.now.tail.n }
     requires other { IsFalse (is_in parent.now.tail.list c) }

@@ -11,7 +11,9 @@ pub record IsStep (t : Terms) (k : ℕ) (old new : View) (before after : Moment)
   pub had : slice_get before.views k ≡ Some old
   pub has : slice_get after.views k ≡ Some new
 
--- `found` is the value of the word when the step found it
+-- Each of these says that the step fits some moment of a race under these terms: there, a seat with the view `old` makes it, and finds the
+-- value `found` in the word. They don't say that this moment was the race's own, nor that k is the number of the seat that made the step:
+-- the view is all that ties them to it.
 module _ (t : Terms) (old : View) (found : ℕ) (new : View) where
   unfoldable pub Takes : Type 0
   Takes = (m : Moment) × (k : ℕ) × (found ≡ m.ticket) × IsStep t k old new m (after_take t m k old)

@@ -17,7 +17,7 @@ three_candidates = record {
   rankings = replicate 5 (0 ∷ []) ++ replicate 4 (1 ∷ 2 ∷ []) ++ replicate 3 (2 ∷ 1 ∷ []);
 }
 
--- four ballots rank B, three rank C, and one each ranks D,C and D and A,B
+-- four ballots rank B, three rank C, one ranks D,C, one ranks D, and one ranks A,B
 abbrev pub county : BallotFile
 county = record {
   contest = codes "county";

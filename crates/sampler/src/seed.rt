@@ -85,8 +85,8 @@ fn first_bad_byte(bytes: &[u8]) -> Option<usize>
 }
 
 impl Seed {
-    /// Reads a seed with the bytes of this text. If the text isn't a seed, the error says why: its length is checked first, then the error is
-    /// its first bad byte.
+    /// Reads a seed with the bytes of this text. If the text isn't a seed, the error is its length if that is wrong, and otherwise its first bad
+    /// byte.
     pub fn read(text: &str) -> Result<Seed, BadSeed>
         ensures valid { is_ok result ≡ is_seed text.now }
         ensures seed { IfOk result (λ seed. seed ≡ text.now) }

@@ -54,7 +54,7 @@ pub fn is_told(word: &[u8], rest: Fields<'_>) -> bool
     word == b"ballot".as_slice() || is_missing(word) && !some_is_marked(rest)
 }
 
-/// Returns what a record with this word, and these fields after it, says about its card, if each preference is one of these candidates.
+/// Returns what a record with this word, and these fields after it, says about its card, if each preference is one of a few candidates.
 pub fn seen_of_record(candidates: &[Name], word: &[u8], rest: Fields<'_>) -> Option<Seen>
     requires { length candidates.now ≤ ROOM }
     ensures { result ≡ seen_of_record candidates.now word.now rest.entry }
@@ -85,7 +85,7 @@ pub fn card_of(manifest: &Manifest, id: &[u8], word: &[u8], rest: Fields<'_>) ->
 }
 
 /// Returns what a record of this card, with this word and these fields after it, says about the card, or the rule that the record breaks:
-/// V3 if the card is among these earlier ones, V5 if a preference isn't one of these candidates.
+/// V3 if the card is among these earlier ones, V5 if a preference isn't one of a few candidates.
 pub fn entry_of_card(
     candidates: &[Name],
     earlier: &SeenCards,

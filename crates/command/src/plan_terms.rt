@@ -1,6 +1,6 @@
 // The terms for which the clean draws of an assertion file are planned.
 
-/// The number of cards that an audit will draw from, and the limits on its risk.
+/// The number of cards that an audit will draw from, its risk limit, and gamma.
 #[derive(Clone, Copy)]
 pub struct PlanTerms {
     /// The number of cards that the manifest will have.

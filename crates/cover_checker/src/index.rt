@@ -11,7 +11,7 @@ use irv_base::{CandSet, Candidate, Memory};
 use std::alloc::Global;
 use std::marker::Model;
 
-/// A list of assertions that can find in constant time whether one of them refutes a suffix that it doesn't refute without its first
+/// A list of assertions that finds in constant time whether one of them refutes a suffix but doesn't refute it without its first
 /// candidate.
 ///
 /// In contracts it is the list.

@@ -1,4 +1,4 @@
-// A walk that enters, once each, the sets that no assertion of a list keeps out.
+// A walk that enters each set that no assertion of a list keeps out, once.
 ghost use Rattle.std.specs.Prelude.{◌≡◌, ◌<◌, ◌≤◌, ◌-◌, List, Ok, length, IsTrue, OnOk, IfErr};
 ghost use Rattle.irv_base.specs.Suffixes.{is_suffix};
 ghost use Rattle.irv_base.specs.declared.limits.TheConstants.{ROOM};

@@ -110,8 +110,8 @@ fn reached_with(
     }
 }
 
-/// Returns the claims that are left after this number of claims at the start, which stay, once each of the others that can be removed is
-/// dropped, from last to first. All claims together cover.
+/// Drops each claim that can be removed, from last to first, except this number of claims at the start, which stay. Returns the claims that
+/// are left after those. All claims together cover.
 ///
 /// A claim can be removed if those that are left without it cover, and no more sets count than the budget has.
 pub(crate) fn nebs_left(

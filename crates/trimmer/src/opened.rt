@@ -111,7 +111,7 @@ impl Without<'_> {
 
     /// Walks the suffixes that end in this one. Each that opens and isn't a whole order is added to the count.
     ///
-    /// The walk doesn't enter places where the others refute everything or the claim refutes nothing.
+    /// The walk skips parts in which the others refute everything or the claim refutes nothing.
     pub fn walk(
         &self,
         nodes: u32,

@@ -54,8 +54,8 @@ fn whole_trial(
     }
 }
 
-// Whether the claim at this index can be removed, where these are the others. The counts are those with the claim before the call, and
-// those of what is left after it.
+// Whether the claim at this index can be removed, given the others. The counts are those with the claim before the call, and those of
+// what is left after it.
 fn can_go_by_nodes(
     f: &AssertionFile,
     place: usize,

@@ -27,8 +27,8 @@ pub enum Checked {
     /// An assertion whose margin is above the file's refutes the file's order. Of these assertions it has the largest margin; if several do,
     /// it is the first of them in the fixed order.
     Harder { assertion: Assertion, margin: u32 },
-    /// The claim with this number, counted from 1, is the first whose planned draws aren't its clean draws. Its clean draws are `found`, or
-    /// `None` if it takes a full count.
+    /// The claim with this number, counted from 1, is the first whose planned draws aren't its clean draws. Its clean draws are `found`,
+    /// which is `None` if it takes a full count.
     OtherDraws { index: u64, found: Option<u32> },
     /// It holds.
     Accepted,

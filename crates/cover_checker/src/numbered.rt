@@ -19,7 +19,7 @@ pub struct Numbered<T> {
 }
 
 impl<T: Copy + Drop> Numbered<T> {
-    /// Makes this table hold the same value under every number.
+    /// Stores the same value under every number, with this table of it.
     pub fn all(alloc: Global, near: Vec<T>, none: T) -> Numbered<T>
         requires { near.items ≡ replicate (length near.items) none }
         ensures none { result.none ≡ none }

@@ -85,7 +85,7 @@ impl Reached {
         }
     }
 
-    /// Removes all but this many sets at the start.
+    /// Keeps this many sets at the start and removes the rest.
     pub fn truncate(&mut self, len: usize)
         ensures { self.new ≡ take len self.old }
     {

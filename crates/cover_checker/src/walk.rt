@@ -101,8 +101,8 @@ fn stopped(stop: Stop, sets: u32) -> Result<SetWalk, CoverFault>
 /// there is one, when both are read backwards. If more than `sets` sets count, the answer is `SpentSets`. The other error is running out
 /// of memory.
 ///
-/// Each set is entered once, so the time grows with the number of sets that count, not with the number of suffixes. The recursion is at
-/// most as deep as the number of candidates.
+/// Each set is entered once, so the time grows with the number of sets that count, not with the number of suffixes. The recursion goes
+/// as deep as the number of candidates.
 pub fn reach(
     alloc: Global,
     refuting: &Refuting,

@@ -50,7 +50,7 @@ pub struct Steps<'a> {
 impl Steps<'_> {
     // Reaches the set with the candidate in front, and all sets that are reached from there, unless a claim keeps it out.
     //
-    // The recursion is at most as deep as the number of candidates.
+    // The recursion goes as deep as the number of candidates.
     fn follow(&self, set: CandSet, c: Candidate, reached: &mut Reached) -> Result<(), Halt>
         requires room { self.now.n ≤ ROOM }
         requires below { c < self.now.n }

@@ -65,8 +65,8 @@ fn next_round<T: Claims>(
 /// Adds the round up to this number of draws in total, and returns whether the session is then signed off.
 ///
 /// It is refused for these reasons, in this order: there aren't more draws than at the last round; the card of a draw has no record of what
-/// is seen, with the first such draw; or the seen cards don't give the counts of an earlier round, with the first such round and its first
-/// such claim. A session that is refused doesn't change.
+/// is seen (the fault names the first such draw); or the seen cards don't give the counts of an earlier round (the fault names the first such
+/// round and its first such claim). A session that is refused doesn't change.
 pub fn advance_by<T: Claims>(
     alloc: Global,
     s: &mut Session,
@@ -105,8 +105,8 @@ pub fn advance_by<T: Claims>(
 /// assertion file.
 ///
 /// It is refused for these reasons, in this order: there aren't more draws than at the last round; the card of a draw has no record of what
-/// is seen, with the first such draw; or the seen cards don't give the counts of an earlier round, with the first such round and its first
-/// such claim. A session that is refused doesn't change.
+/// is seen (the fault names the first such draw); or the seen cards don't give the counts of an earlier round (the fault names the first such
+/// round and its first such claim). A session that is refused doesn't change.
 pub fn advance(
     alloc: Global,
     s: &mut Session,

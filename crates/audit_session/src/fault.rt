@@ -29,7 +29,7 @@ pub enum AdvanceFault {
         expected: Counts,
         found: Counts,
     },
-    /// Memory couldn't be allocated.
+    /// Memory could not be allocated.
     Memory,
 }
 

@@ -25,7 +25,7 @@ pub struct SeenCard {
 pub enum Unseen {
     /// The card of draw `k` has no record among the seen cards.
     NoRecord { card: u32, k: u32 },
-    /// Memory couldn't be allocated.
+    /// Memory could not be allocated.
     Memory,
 }
 

@@ -3,7 +3,7 @@ ghost use Rattle.std.specs.Prelude.{◌≡◌, string_bytes};
 
 use std::marker::Model;
 
-/// The name of a file, as a word gives it. In contracts it is its bytes.
+/// The name of a file, as a word gives it. In a contract, it is its bytes.
 #[derive(Drop)]
 pub struct FileName {
     text: String,

@@ -16,7 +16,7 @@ pub struct SearchTask {
     pub workers: u32,
     /// How far the search may go.
     pub budget: Budget,
-    /// The minimum margin of a search, in votes.
+    /// The smallest margin of a search, in votes.
     pub floor: u32,
     /// The terms for which the draws of a clean audit are planned, if the assertion file is to include them.
     pub plan: Option<PlanTerms>,

@@ -15,7 +15,7 @@ pub struct SearchFewestTask {
     pub workers: u32,
     /// The maximum number of sets of candidates that no NEB of the best margin keeps out.
     pub sets: u32,
-    /// The minimum margin of a search, in votes.
+    /// The smallest margin of a search, in votes.
     pub floor: u32,
     /// How far the margin may be below the best margin, in thousandths of the best margin.
     pub gap: u32,

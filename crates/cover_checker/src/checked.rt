@@ -42,7 +42,7 @@ pub enum CheckFault {
     Spent { last: Candidate },
     /// A budget of this many sets isn't enough to find whether the claims refute all orders.
     SpentSets { sets: u32 },
-    /// Memory couldn't be allocated.
+    /// Memory could not be allocated.
     Memory,
 }
 

@@ -32,7 +32,7 @@ pub enum CoverFault {
     Spent { last: Candidate },
     /// More sets of candidates count than the budget has, which is this number.
     SpentSets { sets: u32 },
-    /// Memory couldn't be allocated.
+    /// Memory could not be allocated.
     Memory,
 }
 

@@ -14,7 +14,7 @@ use std::marker::Model;
 /// A list of assertions that finds in constant time whether one of them refutes a suffix but doesn't refute it without its first
 /// candidate.
 ///
-/// In contracts it is the list.
+/// In a contract, it is the list.
 #[derive(Drop)]
 pub struct Index<'a> {
     list: &'a [Assertion],

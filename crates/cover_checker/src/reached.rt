@@ -10,7 +10,7 @@ use std::marker::Model;
 
 /// The sets of candidates that a walk reached, in the order in which it reached them, each once.
 ///
-/// In contracts it is the list of the sets.
+/// In a contract, it is the list of the sets.
 #[derive(Drop)]
 pub struct Reached {
     sets: Vec<CandSet>,

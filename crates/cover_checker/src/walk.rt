@@ -31,7 +31,7 @@ pub enum Stop {
     Found(Order),
     /// There is one set more than the budget has.
     Spent,
-    /// Memory couldn't be allocated.
+    /// Memory could not be allocated.
     Memory,
 }
 

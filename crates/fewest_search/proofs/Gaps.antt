@@ -1,4 +1,4 @@
--- The minimum margin that a gap leaves.
+-- The smallest margin that a gap leaves.
 use Rattle.std.proofs.Common.{◌≡◌, ℕ, ◌+◌, ◌-◌, ◌*◌, ◌/◌, ◌%◌, ◌<◌, ◌≤◌, max, arith}
 use Rattle.std.proofs.lemmas.Nat.{div-add-mod', mod_below, mul-le}
 use Rattle.fewest_search.specs.Gap.{least_margin}

@@ -31,7 +31,7 @@ pub record AreFewest (n : ℕ) (records : List (List ℕ)) (winner sets margin :
   pub needed : All (λ claim. IsNeededWithin n winner sets (assertions_in claims) claim.assertion) claims
   pub covered : first_within n winner sets (passes (assertions_in claims)) ≡ Ok None
 
--- the best margin, which is above 0, the certificate's order, and claims with the fewest NENs at the minimum margin that the gap leaves; the
+-- the best margin, which is above 0, the certificate's order, and claims with the fewest NENs at the smallest margin that the gap leaves; the
 -- budget has the sets that are needed
 pub record IsFewest (n : ℕ) (records : List (List ℕ)) (winner sets gap : ℕ)
     (found : FewestAssertions) : Type 0 where

@@ -1,4 +1,4 @@
--- The minimum margin that the assertions may have, given a gap below the best margin.
+-- The smallest margin that the assertions may have, given a gap below the best margin.
 use Rattle.std.specs.Prelude.{ℕ, ◌+◌, ◌-◌, ◌*◌, ◌/◌, max}
 
 -- the best margin less this number of thousandths of it, rounded up, and at least one vote

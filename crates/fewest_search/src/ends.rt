@@ -3,7 +3,7 @@
 use assertions::Claim;
 use irv_base::Order;
 
-/// Assertions that confirm the winner with the fewest NENs at the minimum margin that they may have.
+/// Assertions that confirm the winner with the fewest NENs at the smallest margin that they may have.
 #[derive(Drop)]
 pub struct FewestAssertions {
     /// The assertions with their margins, in the fixed order.

@@ -1,4 +1,4 @@
-// The minimum margin that the assertions may have.
+// The smallest margin that the assertions may have.
 ghost use Rattle.std.specs.Prelude.{◌≡◌};
 ghost use Rattle.fewest_search.specs.Gap.{least_margin};
 

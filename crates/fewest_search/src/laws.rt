@@ -21,7 +21,7 @@ pub fn nens_are_needed()
     ensures { NensAreNeeded }
 {}
 
-/// The minimum margin that a gap leaves is rounded up.
+/// The smallest margin that a gap leaves is rounded up.
 pub fn gap_is_rounded_up()
     ensures { GapIsRoundedUp }
 {}

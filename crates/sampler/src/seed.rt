@@ -35,7 +35,7 @@ impl Error for BadSeed {}
 
 /// The seed of an audit: 1 to `MOST_SEED_BYTES` printable ASCII characters, including spaces.
 ///
-/// In contracts a seed is its bytes.
+/// In a contract, a seed is its bytes.
 #[derive(Clone, Copy)]
 pub struct Seed {
     len: u8,

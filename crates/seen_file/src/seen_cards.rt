@@ -10,7 +10,7 @@ use std::marker::Model;
 /// What is seen on some cards, by card number. Each card's number has a place in a table, so a card is found in constant time, whichever
 /// cards there are. The table takes four to eight bytes for each card up to the largest number.
 ///
-/// In contracts it is the list of the cards' numbers, each once and with what is seen on the card, in the order in which they were put.
+/// In a contract, it is the list of the cards' numbers, each once and with what is seen on the card, in the order in which they were put.
 #[derive(Drop)]
 pub struct SeenCards {
     entries: Vec<(u32, Seen)>,

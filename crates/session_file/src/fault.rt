@@ -12,7 +12,7 @@ use std::fmt;
 pub enum SessionFault {
     /// The bytes aren't a session file: rule S1.
     Refused,
-    /// Memory couldn't be allocated.
+    /// Memory could not be allocated.
     Memory,
 }
 

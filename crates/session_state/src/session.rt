@@ -16,7 +16,7 @@ use std::marker::Model;
 /// There is at least one claim, and each margin is 1 to the number of cards. The draws increase from round to round. Each round has as many
 /// counts and risks as there are claims. The counts are over all its draws, and the risk of a claim is the printed risk of its counts.
 ///
-/// In contracts a session is the record of these values, with a list for each list.
+/// In a contract, a session is the record of these values, with a list for each list.
 #[derive(Drop)]
 pub struct Session {
     contest: Name,

@@ -15,7 +15,7 @@ pub const DROPPED_BITS: u32 = 33;
 
 /// A linear congruential generator of numbers, modulo `2 ^ 64`.
 ///
-/// In contracts it is its state.
+/// In a contract, it is its state.
 #[derive(Drop)]
 pub struct Draws {
     state: u64,

@@ -16,7 +16,7 @@ pub enum TrimFault {
     Spent { claim: u64, last: Candidate },
     /// The same by sets: without the claim with this number, more sets of candidates count than the budget has, which is this number.
     SpentSets { claim: u64, sets: u32 },
-    /// Memory couldn't be allocated.
+    /// Memory could not be allocated.
     Memory,
 }
 

@@ -14,7 +14,7 @@ use std::marker::Model;
 /// The claims that are left: those that haven't been tried, and the later ones that stay. It finds in constant time whether one of them
 /// refutes a suffix anew, and leaves out or keeps a claim in a few steps.
 ///
-/// In contracts it is the two lists.
+/// In a contract, it is the two lists.
 #[derive(Drop)]
 pub struct Remaining<'a> {
     untried: &'a [Claim],

@@ -22,7 +22,7 @@ pub enum Halt {
     Stands,
     /// More sets are reached than the budget has.
     Spent,
-    /// Memory couldn't be allocated.
+    /// Memory could not be allocated.
     Memory,
 }
 

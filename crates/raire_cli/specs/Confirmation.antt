@@ -51,8 +51,8 @@ pub record Confirms (n : ℕ) (records : List (List ℕ)) (winner : ℕ) (file :
 
 -- ---- a search
 
--- its file is held and accepted; if the words give a number of cards, each ballot of the contest has one of them; the tabulated order
--- elects this candidate
+-- its file is held and accepted; if the words give a number of cards, there are at least as many cards as ballots of the contest; the
+-- tabulated order elects this candidate
 pub record AsksFor (words : List (List ℕ)) (files : List File) (ballots : BallotFile)
     (winner : ℕ) : Type 0 where
   pub search : Asks Search words

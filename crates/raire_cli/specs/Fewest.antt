@@ -66,8 +66,8 @@ pub record ConfirmsBelow (n : ℕ) (records : List (List ℕ)) (winner best : �
 
 -- ---- a search for the fewest NENs
 
--- its file is held and accepted; if the words give a number of cards, each ballot of the contest has one of them; the tabulated order
--- elects this candidate
+-- its file is held and accepted; if the words give a number of cards, there are at least as many cards as ballots of the contest; the
+-- tabulated order elects this candidate
 pub record AsksForFewest (words : List (List ℕ)) (files : List File) (ballots : BallotFile)
     (winner : ℕ) : Type 0 where
   pub search : Asks SearchFewest words
@@ -133,8 +133,8 @@ IsReasoned held words status out =
     IfSome held (λ files. status ≡ 5 →
     (text : List ℕ) × (GivesReason words files text ⊎ GivesFewestReason words files text) × Took out text)
 
--- The words ask for a search for the fewest NENs over a file that is held, not too long and accepted. If they give a number of cards, each
--- ballot has one. The contest is decided, and there are as many sets as are needed.
+-- The words ask for a search for the fewest NENs over a file that is held, not too long and accepted. If they give a number of cards,
+-- there are at least as many cards as ballots. The contest is decided, and there are as many sets as are needed.
 pub record IsFewestSearchable (words : List (List ℕ)) (files : List File) : Type 0 where
   pub ballots : BallotFile
   pub winner : ℕ

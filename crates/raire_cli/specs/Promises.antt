@@ -20,9 +20,9 @@ use Rattle.raire_cli.specs.Budgets.{Suffices}
 use Rattle.raire_cli.specs.Confirmation.{AsksFor}
 use Rattle.raire_cli.specs.Contests.{IsRefusedAnyway}
 
--- The words ask for a search of a file that is held, not too long and accepted. If they give a number of cards, each ballot has one. The
--- contest is decided: every way of breaking its ties elects the winner. The budget has as many nodes as may be needed for each candidate who
--- didn't win, or as many sets as are needed.
+-- The words ask for a search of a file that is held, not too long and accepted. If they give a number of cards, there are at
+-- least as many cards as ballots. The contest is decided: every way of breaking its ties elects the winner. The budget has as many nodes as
+-- may be needed for each candidate who didn't win, or as many sets as are needed.
 pub record IsSearchable (words : List (List ℕ)) (files : List File) : Type 0 where
   pub ballots : BallotFile
   pub winner : ℕ

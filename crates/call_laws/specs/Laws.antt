@@ -42,7 +42,7 @@ WorkersAskTheSame =
     (held : Option (List File)) (due : Outcome) → IsDue (ByDesk held ⊤) (asked words) due →
     IsDue (ByDesk held ⊤) (asked others) due
 
--- Over the same files they come to the same status and bytes, except if a budget runs out.
+-- Over the same files they come to the same status and bytes, unless a budget runs out.
 abbrev pub WorkersComeToTheSame : Type 0
 WorkersComeToTheSame =
     (task : SearchTask) (some more : ℕ) (words others : List (List ℕ)) →
@@ -88,7 +88,7 @@ FewestComeToTheSameStatus =
     (files : List File) (due other : Outcome) → MayCome (AsHeld files) (asked words) due →
     MayCome (AsHeld files) (asked others) other → due.status ≡ other.status
 
--- Two searches of the same contest with the same floor and plan, by nodes or by sets, come to the same status and bytes, except if a budget
+-- Two searches of the same contest with the same floor and plan, by nodes or by sets, come to the same status and bytes, unless a budget
 -- runs out.
 abbrev pub BudgetsComeToTheSame : Type 0
 BudgetsComeToTheSame =

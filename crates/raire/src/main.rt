@@ -9,7 +9,7 @@ use std::process::ExitCode;
 use std::rt::Env;
 use std::{env, io};
 
-// The status if the system doesn't give the words, or one of them isn't UTF-8.
+// The status if the system doesn't give the words, or if one of them isn't UTF-8.
 const NO_WORDS: u8 = 13;
 
 /// The words of the command line without the program's name.

@@ -29,7 +29,7 @@ pub const FILES: [File; 3] = [
     },
 ];
 
-// More sets count than the two that the words give, and more than one.
+// More sets count than the words give, which is two sets here and one in the next text.
 const SPENT_AT_2: &str = "spent\nsets 2\norder 3,2,1\nmargin 2\n";
 
 const SPENT_AT_1: &str = "spent\nsets 1\n";

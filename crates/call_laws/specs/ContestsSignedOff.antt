@@ -73,7 +73,7 @@ module _ (announced : AnnouncedContest) (actual : List (List ℕ)) (most : ℕ) 
 
 -- ---- what is promised
 
--- The actual rankings, one for each card, may elect a candidate other than the one that the assertions of the contest say. Then an audit
+-- The actual rankings, one for each card, may elect a candidate other than the winner that the contest's assertions name. Then an audit
 -- signs the contest off on at most limit millionths of all cards ^ most sequences.
 abbrev pub ContestSignedOffAreFew : Type 0
 ContestSignedOffAreFew =

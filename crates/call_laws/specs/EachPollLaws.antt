@@ -2,8 +2,8 @@
 -- is the promise; the records before it are the premises.
 --
 -- Think of all polls that could be held on the cards of a manifest. They have the same manifest, assertion file, limit and gamma, and each
--- has its own seed. If some way of breaking the ties of the cards elects a candidate other than the one that the assertion file says, then
--- one of these polls confirms all claims on few of all sequences of draws.
+-- has its own seed. If some way of breaking the ties of the cards elects a candidate other than the assertion file's winner, then one of
+-- these polls confirms all claims on few of all sequences of draws.
 --
 -- No record of any card is read. The margins of the file choose the gammas if the words say so, and are used for nothing else. The promise is
 -- a count, and says nothing about chance.
@@ -76,8 +76,8 @@ module _ (announced : AnnouncedEachPoll) (actual : List (List ℕ)) (most : ℕ)
 
 -- ---- what is promised
 
--- The actual rankings, one for each card, may elect a candidate other than the one that the assertion file says. Then a poll confirms all
--- claims on at most limit millionths of all cards ^ most sequences.
+-- The actual rankings, one for each card, may elect a candidate other than the assertion file's winner. Then a poll confirms all claims on
+-- at most limit millionths of all cards ^ most sequences.
 abbrev pub EachConfirmedAreFew : Type 0
 EachConfirmedAreFew =
     (announced : AnnouncedEachPoll) (actual : List (List ℕ)) (most : ℕ)

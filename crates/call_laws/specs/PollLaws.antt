@@ -1,9 +1,9 @@
 -- The risk limit of whole polls, from the words of their calls to the count. `ConfirmedAreFew`, the last record, is the promise; the
 -- records before it are the premises.
 --
--- Think of all polls that could be held on the cards of a manifest. They have the same manifest, assertion file, limit and gamma, and
--- each has its own seed. If some way of breaking the ties of the cards elects a candidate other than the one that the assertion file says,
--- then one of these polls confirms all claims on few of all sequences of draws.
+-- Think of all polls that could be held on the cards of a manifest. They have the same manifest, assertion file, limit and gamma, and each
+-- has its own seed. If some way of breaking the ties of the cards elects a candidate other than the assertion file's winner, then one of
+-- these polls confirms all claims on few of all sequences of draws.
 --
 -- No record of any card is read, and the margins of the file aren't used. The promise is a count, and says nothing about chance.
 use Rattle.std.specs.Prelude.{◌≡◌, ◌≢◌, ℕ, ◌*◌, ◌^◌, ◌≤◌, List, length, All, AllPairs, Ok, IsTrue}
@@ -76,8 +76,8 @@ module _ (announced : AnnouncedPoll) (actual : List (List ℕ)) (most : ℕ) whe
 
 -- ---- what is promised
 
--- The actual rankings, one for each card, may elect a candidate other than the one that the assertion file says. Then a poll confirms all
--- claims on at most limit millionths of all cards ^ most sequences.
+-- The actual rankings, one for each card, may elect a candidate other than the assertion file's winner. Then a poll confirms all claims on
+-- at most limit millionths of all cards ^ most sequences.
 abbrev pub ConfirmedAreFew : Type 0
 ConfirmedAreFew =
     (announced : AnnouncedPoll) (actual : List (List ℕ)) (most : ℕ)

@@ -1,9 +1,9 @@
 -- The risk limit of whole audits, from the words of their calls to the count. `SignedOffAreFew`, the last record, is the promise; the
 -- records before it are the premises.
 --
--- Think of all audits that could be held of one contest. They have the same files, limit and gamma, and each has its own session and
--- seed. If some way of breaking the ties of the cards elects a candidate other than the one that the assertion file says, then one of these
--- audits is signed off on few of all sequences of draws.
+-- Think of all audits that could be held of one contest. They have the same files, limit and gamma, and each has its own session and seed.
+-- If some way of breaking the ties of the cards elects a candidate other than the assertion file's winner, then one of these audits is
+-- signed off on few of all sequences of draws.
 --
 -- Even after a look at its draws, each audit may choose the number of rounds and where they end, which of the drawn cards are missing, what
 -- is noted for cards that weren't drawn, its words, and the names of its files. Several seeds may draw the same cards, but a sequence counts
@@ -65,8 +65,8 @@ module _ (announced : Announced) (actual : List (List ℕ)) (most : ℕ) where
 
 -- ---- what is promised
 
--- The actual rankings, one for each card, may elect a candidate other than the one that the assertion file says. Then an audit is signed off
--- on at most limit millionths of all cards ^ most sequences.
+-- The actual rankings, one for each card, may elect a candidate other than the assertion file's winner. Then an audit is signed off on at
+-- most limit millionths of all cards ^ most sequences.
 abbrev pub SignedOffAreFew : Type 0
 SignedOffAreFew =
     (announced : Announced) (actual : List (List ℕ)) (most : ℕ) (sequences : List (List ℕ)) →

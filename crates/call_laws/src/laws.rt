@@ -72,9 +72,8 @@ pub fn signed_off_is_counted()
     ensures { SignedOffIsCounted }
 {}
 
-/// If the actual rankings of the cards may elect a candidate other than the one that the assertion file says, and each drawn card is read as
-/// it is or is missing, then audits with the same files, limit and gamma are signed off on at most `limit` millionths of all sequences of
-/// draws.
+/// If the actual rankings of the cards may elect a candidate other than the assertion file's winner, and each drawn card is read as it is
+/// or is missing, then audits with the same files, limit and gamma are signed off on at most `limit` millionths of all sequences of draws.
 pub fn signed_off_are_few()
     ensures { SignedOffAreFew }
 {}
@@ -84,9 +83,9 @@ pub fn confirmed_is_counted()
     ensures { ConfirmedIsCounted }
 {}
 
-/// If the actual rankings of the cards may elect a candidate other than the one that the assertion file says, and each drawn card is read as
-/// it is or is missing, then polls with the same manifest, assertion file, limit and gamma confirm all claims on at most `limit` millionths
-/// of all sequences of draws.
+/// If the actual rankings of the cards may elect a candidate other than the assertion file's winner, and each drawn card is read as it is
+/// or is missing, then polls with the same manifest, assertion file, limit and gamma confirm all claims on at most `limit` millionths of
+/// all sequences of draws.
 pub fn confirmed_are_few()
     ensures { ConfirmedAreFew }
 {}
@@ -97,9 +96,9 @@ pub fn each_confirmed_is_counted()
     ensures { EachConfirmedIsCounted }
 {}
 
-/// If the actual rankings of the cards may elect a candidate other than the one that the assertions prove, and each drawn card is read as it
-/// is or is missing, then polls with a look after each draw and with the same manifest, assertion file, limit and gamma confirm all claims
-/// on at most `limit` millionths of all sequences of draws.
+/// If the actual rankings of the cards may elect a candidate other than the winner that the assertions prove, and each drawn card is read
+/// as it is or is missing, then polls with a look after each draw and with the same manifest, assertion file, limit and gamma confirm all
+/// claims on at most `limit` millionths of all sequences of draws.
 pub fn each_confirmed_are_few()
     ensures { EachConfirmedAreFew }
 {}
@@ -130,9 +129,9 @@ pub fn contest_is_counted()
     ensures { ContestIsCounted }
 {}
 
-/// If the actual rankings of the cards may elect a candidate in a contest other than the one that its assertions say, and each drawn card is
-/// read as it is or is missing, then audits of all contests with the same ballots, manifest, limit and gamma sign the contest off on at most
-/// `limit` millionths of all sequences of draws.
+/// If, in one contest, the actual rankings of the cards may elect a candidate other than the winner that its assertions name, and each
+/// drawn card is read as it is or is missing, then audits of all contests with the same ballots, manifest, limit and gamma sign the contest
+/// off on at most `limit` millionths of all sequences of draws.
 pub fn contest_signed_off_are_few()
     ensures { ContestSignedOffAreFew }
 {}

@@ -57,7 +57,7 @@ IsKind kind = (kind ≡ Done) ⊎ (kind ≡ Unconfirmed)
 
 -- ---- the assertion file was accepted
 
--- only a check answers `yes`, which isn't a session
+-- a check by itself answers `yes`, which isn't a session
 pub not_checked : (budget : Budget) (ballots : BallotFile) (file : FileContent) (kind : AnswerKind) (text : List ℕ) → IsKind kind →
     is_accepted budget ballots file ≡ false → Checks budget ballots file (Answered kind text) → ⊥
 not_checked budget ballots file kind text (inl done) out (answer, found, is) =

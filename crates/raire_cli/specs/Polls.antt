@@ -77,7 +77,7 @@ pub record IsPollOf (words : List (List ℕ)) (files : List File) : Type 0 where
   pub held : ArePollFiles asks.task files bytes
   pub inputs : PollInputs
   pub say : SayPoll bytes inputs
-  -- the claims refute every order that elects a candidate other than the one that the file says
+  -- the claims refute every order that elects a candidate other than the file's winner
   pub cover : Cover (candidate_count inputs.file) inputs.file.winner (claimed inputs.file)
   -- each drawn card has a record of what is seen
   pub all_told :

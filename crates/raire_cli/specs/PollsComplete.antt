@@ -16,7 +16,7 @@ use Rattle.raire_cli.specs.Polls.{PollInputs, cards}
 use Rattle.raire_cli.specs.PollsEach as each
 
 -- The three files of a poll are held, not too long and accepted. With this many nodes it is known that the claims refute every order that
--- elects a candidate other than the one that the file says.
+-- elects a candidate other than the file's winner.
 pub record ArePollable (files : List File) (manifest assertions seen : List ℕ) (nodes : ℕ)
     (inputs : PollInputs) : Type 0 where
   pub of_manifest : Says files manifest manifest_of inputs.batches

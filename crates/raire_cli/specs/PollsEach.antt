@@ -70,7 +70,7 @@ pub record IsEachPollOf (words : List (List ℕ)) (files : List File) : Type 0 w
   pub held : AreEachFiles asks.task files bytes
   pub inputs : PollInputs
   pub say : SayPoll bytes inputs
-  -- the claims refute every order that elects a candidate other than the one that the file says
+  -- the claims refute every order that elects a candidate other than the file's winner
   pub cover : Cover (candidate_count inputs.file) inputs.file.winner (claimed inputs.file)
   -- each card that is needed has a record of what is seen; these are the cards up to the draw that confirms the last claim, or all of them
   pub all_told :

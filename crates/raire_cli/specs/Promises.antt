@@ -1,4 +1,4 @@
--- What `run` promises for its statuses.
+-- What `run` promises, by status.
 use Rattle.std.specs.Prelude.{◌≡◌, ◌⊎◌, ◌≤◌, ℕ, false, List, Option, Some, IfSome, length}
 use Rattle.desk.specs.Desk.{File}
 use Rattle.desk.specs.declared.served.Served.{Served}

@@ -73,7 +73,7 @@ pub fn run<R: AllocGlobal + Threads + Sync, D: Desk, O: Sink, E: Sink, G: Gate +
     ensures full_count { IsReasoned (D.held desk.old) (texts words.now) result
         (writing O.Sink out.old out.new) }
 
-    // A search of a contest that is decided ends with assertions or with such a reason if its budget is large enough.
+    // A search of a contest that is decided ends with assertions or with a reason for a full count if its budget is large enough.
     ensures complete { IsComplete (D.held desk.old) (texts words.now)
         (Rose (D.faults desk.old) (D.faults desk.new)) result
         (writing O.Sink out.old out.new) (writing E.Sink err.old err.new) }

@@ -7,7 +7,7 @@ const SEVEN: &str = "\
     contest 7\nrecords 1\nwinner 1\nmargin 1\nNEB 1 2 margin 1 counts 0 0 5 0 0 risk 0.048282842081079907 confirmed\nsigned off yes\n\
     all yes\n";
 
-/// The same, with contest 8, whose card can't be found.
+/// The same, and how contest 8 ends, whose card can't be found.
 pub const BOTH: &str = "\
     contest 7\nrecords 1\nwinner 1\nmargin 1\nNEB 1 2 margin 1 counts 0 0 5 0 0 risk 0.048282842081079907 confirmed\nsigned off yes\n\
     contest 8\nrecords 1\nwinner 2\nmargin 1\nNEB 2 1 margin 1 counts 5 0 0 0 0 risk 1.000000000000000000 unconfirmed\nsigned off no\n\

@@ -19,7 +19,7 @@ use Rattle.contest_search.specs.Contest.{candidate_count}
 use Rattle.raire_cli.specs.Asks.{Asks}
 use Rattle.raire_cli.specs.Held.{AreClaimed}
 
--- this is the assertion file as which the claims that the words name are adopted
+-- the claims that the words name are adopted as this assertion file
 pub record IsAdoptedOf (words : List (List ℕ)) (files : List File) (file : Content) : Type 0 where
   pub asks : Asks Adopt words
   pub ballots : BallotFile

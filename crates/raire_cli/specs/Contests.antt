@@ -66,7 +66,7 @@ pub record AuditsContests (words : List (List ℕ)) (files : List File) : Type 0
   pub say : SayContests bytes inputs
   -- each ballot of each contest has a card
   pub placed : first_without_card_of_all inputs.batches inputs.list ≡ None
-  -- each contest ends this way, by its own ballots, what is seen for it, the manifest and the terms that the words give
+  -- each contest ends this way, based on its own ballots, what is seen for it, the manifest and the terms that the words give
   pub ends : List ContestEnd
   pub are : AreEnds inputs.batches (terms_of asks.task) inputs.list inputs.seen ends
 

@@ -120,7 +120,7 @@ pub fn run<R: AllocGlobal + Threads + Sync, D: Desk, O: Sink, E: Sink, G: Gate +
     ensures accepted { IsUpheld (D.held desk.old) (texts words.now) result
         (writing O.Sink out.old out.new) }
 
-    // A trimmed assertion file holds like the one that was read, and each of its assertions is needed.
+    // Like the file that was read, a trimmed assertion file holds, and each of its assertions is needed.
     ensures trimmed { IsTrimmed (D.held desk.old) (texts words.now) result
         (writing O.Sink out.old out.new) }
 
@@ -166,8 +166,8 @@ pub fn run<R: AllocGlobal + Threads + Sync, D: Desk, O: Sink, E: Sink, G: Gate +
     ensures audited_plurality { IsPluralityAudited (D.held desk.old) (texts words.now) result
         (writing O.Sink out.old out.new) }
 
-    // An audit of all contests reports how each contest ends, by its own ballots and what is seen for it. It is done exactly when each contest
-    // is signed off.
+    // An audit of all contests reports how each contest ends, based on its own ballots and what is seen for it. It is done exactly when each
+    // contest is signed off.
     ensures audited_contests { IsAuditedByContest (D.held desk.old) (texts words.now) result
         (writing O.Sink out.old out.new) }
 

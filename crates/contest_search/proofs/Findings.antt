@@ -51,7 +51,7 @@ best_of : (ballots : BallotFile) (bag : Kept) (t : Tabulated) (end : RaceEnd) �
     IsBest (candidate_count ballots) ballots.rankings t.winner end
 best_of ballots bag t end c best = subst (λ n. IsBest n ballots.rankings t.winner end) c.candidates (best ballots.rankings c.records)
 
--- ---- a budget that is spent
+-- ---- a search that runs out of budget
 
 pub race-spent : (ballots : BallotFile) (t : Tabulated) (nodes last upper : ℕ) (order : List ℕ) → IsTabulation (candidate_count ballots) ballots.rankings t →
     IsTooMuch (candidate_count ballots) ballots.rankings t nodes last upper order → IsSpent nodes ballots last order upper

@@ -1,4 +1,4 @@
--- The ends of all claims, by all draws and by the first of them.
+-- The ends of all claims, by all draws and by the first draws only.
 use Rattle.std.proofs.Common.{◌≡◌, ℕ, ◌<◌, ◌≤◌, Bool, true, false, ◌&&◌, List, [], ◌∷◌, length, map, take, Option, None, Some, is_some, refl, sym, ap, ◌∙◌, arith}
 use Rattle.std.specs.List.{list_all}
 use Rattle.std.proofs.lemmas.Bool.{and_parts}
@@ -55,7 +55,7 @@ module _ (limit : ℕ) (seen : List Seen) (drawn : List ℕ) where
   long : (claim : Polled) → length (values_of seen drawn claim) ≡ length drawn
   long claim = length-map drawn (λ card. seen_value claim.value (seen_at seen card))
 
-  -- a claim takes no more draws than there are
+  -- a claim takes at most as many draws as there are
   takes-within : (claim : Polled) → draws_of limit claim.gamma (values_of seen drawn claim) ≤ length drawn
   takes-within claim = by (confirmed_at limit claim.gamma (values_of seen drawn claim)) refl where
     by : (o : Option ℕ) → confirmed_at limit claim.gamma (values_of seen drawn claim) ≡ o →

@@ -34,7 +34,7 @@ pub record FitTogether (batches : Batches) (ballots : BallotFile)
   pub linked : first_without_card batches ballots ≡ None
   pub holds : Holds ballots file
 
--- the claims of such files are fit for an audit of the linked records
+-- the claims of files like these are fit for an audit of the linked records
 abbrev pub HeldIsAuditable : Type 0
 HeldIsAuditable =
     (batches : Batches) (ballots : BallotFile) (file : FileContent) →

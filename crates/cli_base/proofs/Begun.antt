@@ -32,7 +32,7 @@ reaches_wider readings others wider (Read first next) n name (inl is) = inl is
 reaches_wider readings others wider (Read first next) n name (inr (more, is, bytes, there, rest)) =
     inr (more, is, bytes, wider first (Bytes bytes) there, reaches_wider readings others wider (next bytes) more name rest)
 
--- the files before one that is read are told
+-- the files before one that is read are reported
 pub told_reaches_as : (held : Option (List File)) (failed : Type 0) (script : Script) (n : ℕ) (name : List ℕ) → ReachesAs (ByDesk held failed) script n name →
     ReachesAs (AsTold held) script n name
 told_reaches_as held failed (Ends verdicts) n name reaches = reaches

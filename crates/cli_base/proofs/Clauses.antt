@@ -209,7 +209,7 @@ if_some (Some x) P Q f p = f x p
 -- ---- each from the story of a call
 
 module _ (asked : Asked) (failed : Type 0) (status : ℕ) (out err : Writing) where
-  -- undone, or what the files make it, those that are told or some that the desk may have given
+  -- undone, or what the files make it, which are the reported files or some that the desk may have given
   told : (held : Option (List File)) (due : Outcome) → IsDue (ByDesk held failed) asked due → IsWritten due status out err
       → IsUndone status ⊎ (MayCome (AsTold held) asked due × IsWhole due status out err)
   told held due is_due (inr cut) = inl (inr (inl cut.ends))

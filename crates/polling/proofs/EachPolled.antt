@@ -85,7 +85,7 @@ module _ (limit : ℕ) (seen : List Seen) (drawn : List ℕ) where
         ap (end_of limit claim.gamma) (first-values claim)
         ∙ ended-more limit claim.gamma (values_of seen drawn claim) m (among claim) (confirms-first claim some)
 
-    -- where they confirm each claim, its end is the same by all draws, which ask of no more of them
+    -- if they confirm each claim, its end is the same by all draws, which ask for no more of them
     pub ends-first : (claims : List Polled) → is_each_confirmed limit claims seen (take m drawn) ≡ true →
         ends_of limit claims seen (take m drawn) ≡ ends_of limit claims seen drawn
     ends-first [] each = refl
@@ -103,7 +103,7 @@ module _ (limit : ℕ) (seen : List Seen) (drawn : List ℕ) where
         let rest = asked-first claims more in
         omega (arith, first, rest)
 
-    -- where they don't, more of them are asked
+    -- if they don't, more of them are asked for
     pub asked-more : m < length drawn → (claims : List Polled) → is_each_confirmed limit claims seen (take m drawn) ≡ false →
         m < asked limit claims seen drawn
     asked-more fewer [] each = absurd (cc each)

@@ -18,7 +18,7 @@ polled-more value drawn i one below is =
     sym (map-append (polled value) (take i drawn) (one ∷ []))
     ∙ ap (map (polled value)) (ap (λ x. take i drawn ++ x ∷ []) is ∙ sym (take_more drawn i one below))
 
--- ---- values of at most two count as equal discrepancies
+-- ---- values of at most two, counted the same way as discrepancies
 other : (s k : ℕ) → s < k → ◌≡◌ {A = ℕ} (cond (s == k) 1 0) 0
 other s k less = go (s == k) refl where
   go : (b : Bool) → (s == k) ≡ b → ◌≡◌ {A = ℕ} (cond b 1 0) 0

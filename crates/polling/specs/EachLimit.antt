@@ -1,5 +1,5 @@
 -- The risk limit of a poll that is looked at after each draw. `EachLimit`, the last record, is the promise; the records before it are the
--- premises. They are those of `PollLimit`, with a gamma for each claim. When such a poll confirms (`is_each_confirmed`) is defined in
+-- premises. They are those of `PollLimit`, with a gamma for each claim. When a poll like this confirms (`is_each_confirmed`) is defined in
 -- `polling/specs/Each.antt`.
 --
 -- The candidates and the winner are those of the assertions, and the gammas are given first. So in a poll they are fixed and published

@@ -82,7 +82,7 @@ pub enum Refusal {
     Words,
     /// A line that names a file.
     Line(RefusalKind, String),
-    /// Memory ran out.
+    /// Memory could not be allocated.
     Memory,
 }
 

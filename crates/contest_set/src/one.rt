@@ -148,7 +148,7 @@ pub fn audit_one<R: AllocGlobal + Threads + Sync, G: Gate + Sync>(
             order,
             margin,
         }),
-        // The budget is of nodes, not of sets.
+        // The budget isn't a number of sets.
         Found::SpentSets { .. } => unreachable!(),
     }
 }

@@ -17,7 +17,7 @@ outcome_in ballots = outcome_of (length ballots.candidates) ballots.rankings
 abbrev pub tied : BallotFile → Tie → Verdict
 tied ballots tie = Answered TieKind (tie_text ballots.candidates 1 tie.tied tie.tally)
 
--- this verdict has a tie
+-- there is a tie, and this verdict is the one for it
 abbrev pub TellsOfTie : BallotFile → Verdict → Type 0
 TellsOfTie ballots verdict =
     (tie : Tie) × (outcome_in ballots ≡ Err tie) × (verdict ≡ tied ballots tie)

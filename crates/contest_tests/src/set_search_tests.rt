@@ -34,8 +34,8 @@ fn answer<R: AllocGlobal + Threads + Sync>(
     }
 }
 
-// Of fifteen ballots 0 has four, 1 has three, and four others have two each, one of which goes to the next of these four then, and one
-// to 0.
+// Of the fifteen ballots, candidate 0 has four, 1 has three, and four others have two each. Of each two, one goes on to the next of these
+// four, and one to 0.
 fn near_equals() -> [Ranking; 15]
     ensures { All (λ ranking. All (λ c. c < 6) ranking) result }
 {
@@ -119,7 +119,7 @@ fn tie_for_the_win_is_undecided(rt: HostRuntime) {
     assert!(rt; matches!(&end, Ok(SetsEnd::Undecided)));
 }
 
-// Each set of candidates without 0 is below the best margin, 2. There are 31 such sets, with 325 suffixes.
+// Each set of the candidates other than 0 is below the best margin, 2. There are 31 of these sets, with 325 suffixes.
 #[test]
 fn near_equals_need_each_of_their_sets(rt: HostRuntime) {
     match answer(&rt, 6, near_equals().as_slice(), 31) {

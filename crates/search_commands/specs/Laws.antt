@@ -96,7 +96,7 @@ TrialIsASearch =
     (task : TrialTask) (kind : AnswerKind) → FEWEST_CANDIDATES ≤ task.candidates →
     IsAmongKinds (Tries task) kind ↔ IsAmongKinds (Finds task.budget 1 None (contest_of task)) kind
 
--- If its nodes are twice the factorial of the number of the other candidates, or its sets all but three, a trial has its lines, or a tie.
+-- With twice the factorial of the number of the other candidates as nodes, or with all sets but three, a trial has its lines, or a tie.
 abbrev pub TrialIsComplete : Type 0
 TrialIsComplete =
     (task : TrialTask) (verdict : Verdict) → IsEnoughFor task.candidates task.budget →

@@ -34,8 +34,8 @@ fn answer<R: AllocGlobal + Threads + Sync>(
     }
 }
 
-// Of the fifteen ballots, candidate 0 has four, 1 has three, and four others have two each. Of each two, one goes on to the next of these
-// four, and one to 0.
+// Candidate 0 has four of the fifteen ballots, 1 has three, and four others have two each. One of each two then goes to the next of these
+// four, and the other to 0.
 fn near_equals() -> [Ranking; 15]
     ensures { All (λ ranking. All (λ c. c < 6) ranking) result }
 {

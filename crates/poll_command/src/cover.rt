@@ -55,7 +55,7 @@ fn unless_stands(
     }
 }
 
-/// How the call ends if the assertions don't refute each order like this within this many nodes.
+/// How the call ends if the assertions don't refute each order that elects a candidate other than their winner within this many nodes.
 pub(crate) fn unless_covered(
     alloc: Global,
     file: &AssertionFile,

@@ -16,7 +16,7 @@ pub enum SetFault {
     NoCard { at: u32 },
     /// Rule V4: the card of draw `k`, counted from 1, has no record among the seen for the contest at this place of the file, counted from 0.
     NoRecord { contest: u32, card: u32, k: u32 },
-    /// Memory ran out.
+    /// Memory could not be allocated.
     Memory,
 }
 

@@ -19,10 +19,6 @@ IsTooFew n winner sets list =
 abbrev pub others : Assertion → List Assertion → List Assertion
 others a list = filter (λ b. not (is_same a b)) list
 
--- the list is open without the assertion
-abbrev pub IsNeeded : ℕ → ℕ → List Assertion → Assertion → Type 0
-IsNeeded n winner list a = IsOpen n winner (others a list)
-
 -- the same, as far as the budget shows it
 abbrev pub IsNeededWithin : ℕ → ℕ → ℕ → List Assertion → Assertion → Type 0
 IsNeededWithin n winner sets list a = IsTooFew n winner sets (others a list)

@@ -19,6 +19,6 @@ IsTooFew n winner sets list =
 abbrev pub others : Assertion → List Assertion → List Assertion
 others a list = filter (λ b. not (is_same a b)) list
 
--- the same, as far as the budget shows it
+-- the list has too few assertions without this one, as far as the budget shows it
 abbrev pub IsNeededWithin : ℕ → ℕ → ℕ → List Assertion → Assertion → Type 0
 IsNeededWithin n winner sets list a = IsTooFew n winner sets (others a list)

@@ -30,7 +30,7 @@ import plain_audit  # noqa: E402
 import words as office_words  # noqa: E402
 
 EXAMPLES = os.path.join(TOP, "examples", "imports")
-FORMS = {"shangrla": ("raire",), "raire-java": ("raire-java", "raire-rs"), "raire-rs": ("raire-rs", "raire-java")}  # the forms that can read each form of export
+FORMS = {"shangrla": ("raire",), "raire-java": ("raire-java", "raire-rs"), "raire-rs": ("raire-rs", "raire-java")}  # the readers of each form of export
 MANY, SECONDS = 14_000, 10.0  # a file with this many assertions is made and imported within this much processor time
 GONE = object()  # stands for a value that is removed
 ODD = [None, True, -1, 0, 2.5, 10**20, "", "Ash", "\ud800", "x" * 5_000, [], ["Ash"], [[]], {}, {"Ok": {}}]

@@ -99,7 +99,7 @@ def main():
         path = os.path.join(folder, "assertions.json")
         for ballots in ballot_files(folder, count):
             with open(path, "wb") as file:
-                draws = ["--cards=1000000"] * (tried % 2)  # every second file has draws, which the export omits 
+                draws = ["--cards=1000000"] * (tried % 2)  # every second file has draws, which the export omits
                 if subprocess.run([program, "search", "--nodes", NODES, *draws, ballots], stdout=file, stderr=subprocess.DEVNULL).returncode:
                     continue
             ran = subprocess.run([os.path.join(TOP, "tools", "export"), "shangrla", ballots, path], capture_output=True, env={**os.environ, "RAIRE": program})

@@ -250,7 +250,7 @@ def used(root, path, digest):
     yield "a command that needs the repository says so", in_root(root, "raire", "release")[0] == 1
     done = in_root(root, "apt-get", "purge", "-y", "raire")
     yield f"it is removed: {done}", done[0] == 0
-    its_own = ("/etc/shells", "/var/lib/shells.state")  # these are the system's, as are the folders of Python 
+    its_own = ("/etc/shells", "/var/lib/shells.state")  # these are the system's, as are the folders of Python
     left = {path for path in files_of(root) - before if "/usr/lib/python3" not in path and not path.endswith(its_own)}
     yield f"nothing of it is left: {sorted(left)[:5]}", not left
 

@@ -1,4 +1,4 @@
--- An adoption comes to one end, and what it names is among the candidates.
+-- An adoption has one end, and what it names is among the candidates.
 use Rattle.std.proofs.Common.{◌≡◌, ℕ, ◌<◌, Bool, true, false, ◌==◌, if◌then◌else◌, not, List, length, Option, None, Some, Ok, Err, IsTrue, refl, sym, ap, subst, ◌∙◌}
 use Rattle.std.specs.Prelude.{⊤, find, option_map, unwrap_or}
 use Rattle.std.proofs.lemmas.List.Elements.{All-contains}

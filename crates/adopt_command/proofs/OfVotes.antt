@@ -1,4 +1,4 @@
--- What comes of claims over votes, comes of them over the ballots that they are of.
+-- The result for claims over votes is also their result over the ballots that have these votes.
 use Rattle.budget.specs.declared.budget.Budget.{Budget}
 use Rattle.ballots.specs.Ballots.{BallotFile, votes_of}
 use Rattle.claims_file.specs.Claimed.{Claimed}

@@ -26,7 +26,7 @@ use Rattle.check_command.specs.Check.{differs, stands, winner_is}
 abbrev pub isnt_true : List ℕ → List ℕ
 isnt_true assertion = codes "assertion " ++ assertion ++ codes " isn't true"
 
--- the verdict on what came of the claims, printed by the ids of the contest's candidates
+-- the verdict on the result for the claims, printed by the ids of the contest's candidates
 abbrev pub adoption_verdict : List Id → Adoption → Verdict
 adoption_verdict ids (OtherWinner winner) = differs (winner_is (id_of ids winner))
 adoption_verdict ids (Untrue assertion) = differs (isnt_true (assertion_text ids assertion))
@@ -39,7 +39,7 @@ verdict_on ids (Err (SpentAt last)) = Some (Answered Spent (spent_at (id_of ids 
 verdict_on ids (Err (SpentSets sets)) = Some (Answered Spent (spent_sets sets))
 verdict_on ids (Err Memory) = None
 
--- an adoption comes to the verdict on an answer that there may be
+-- an adoption ends with the verdict on a possible answer
 abbrev pub Adopts : Budget → BallotFile → Claimed → Verdict → Type 0
 Adopts budget ballots claims verdict =
     (answer : Answer) × IsAnswer budget ballots claims answer

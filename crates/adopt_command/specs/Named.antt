@@ -5,7 +5,7 @@ use Rattle.assertions.specs.Assertions.{is_proper}
 use Rattle.adoption.specs.declared.adoption.Adoption.{Adoption}
 use Rattle.adoption.specs.declared.adoption.Adoption.TheVariants.{OtherWinner, Untrue, Stands, Adopted}
 
--- what it names is a candidate, an assertion or an order of n candidates
+-- the answer names a candidate, an assertion or an order of n candidates
 abbrev pub IsAmong : ℕ → Adoption → Type 0
 IsAmong n (OtherWinner winner) = winner < n
 IsAmong n (Untrue assertion) = IsTrue (is_proper n assertion)

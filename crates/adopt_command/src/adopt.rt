@@ -35,11 +35,11 @@ use report::assertion_text;
 use std::alloc::{AllocError, Global};
 use std::thread::Threads;
 
-// The votes are counted by this many, if they weren't as they were read.
+// The number of workers that count the votes, if they weren't counted as they were read.
 const WORKERS: u32 = 1;
 
-/// The assertion file of the claims, if they are true and refute every order that elects another candidate; otherwise the first that is
-/// found.
+/// The assertion file of the claims, if they are true and refute every order that elects another candidate; otherwise the first fault that
+/// is found.
 pub fn answer<R: AllocGlobal + Threads + Sync, D: Desk>(
     rt: &R,
     desk: &mut D,
@@ -59,7 +59,7 @@ pub fn answer<R: AllocGlobal + Threads + Sync, D: Desk>(
     after_votes(rt, desk, &votes, &task.claims, task.budget)
 }
 
-// The same of votes that are read, by the claims file of this name.
+// The same for votes that have been read, by the claims file of this name.
 fn after_votes<R: AllocGlobal + Threads + Sync, D: Desk>(
     rt: &R,
     desk: &mut D,
@@ -81,7 +81,7 @@ fn after_votes<R: AllocGlobal + Threads + Sync, D: Desk>(
     of_claims(rt, votes, &claimed, budget)
 }
 
-// The same of claims that are read.
+// The same for claims that have been read.
 fn of_claims<R: AllocGlobal + Threads + Sync>(
     rt: &R,
     votes: &Votes,
@@ -104,7 +104,7 @@ fn of_claims<R: AllocGlobal + Threads + Sync>(
     }
 }
 
-// The answer for what came of the claims, by the names of the candidates.
+// The answer for the result of the adoption, by the names of the candidates.
 fn adoption_answer(alloc: Global, names: &[Name], adoption: &Adoption) -> Result<Answer, Refusal>
     requires few { length names.now ≤ ROOM }
     requires among { IsAmong (length names.now) adoption.now }

@@ -1,5 +1,5 @@
-//! The command that adopts claims: an assertion file of what somebody names, with margins over the ballots, if it is true and covers. It
-//! uses no search.
+//! The command that adopts claims: it makes an assertion file from the claims that somebody names, with their margins over the ballots, if
+//! they are true and cover. It uses no search.
 #![tactic(auto)]
 
 pub mod adopt;

@@ -68,7 +68,7 @@ covers-more n winner some others more h =
     let (a, k, r) = from_covers n winner some order h m in
     list_any-member (λ a. refutes a order) {x = a} (more a k) r)
 
--- ---- none is found that isn't true
+-- ---- no claim is found to be untrue
 
 pub none-untrue : (records : List (List ℕ)) (list : List Assertion) → list_all (is_true records) list ≡ true → find (λ a. not (is_true records a)) list ≡ None
 none-untrue records list h = by (find (λ a. not (is_true records a)) list) refl where
@@ -104,7 +104,7 @@ module _ (ballots : BallotFile) (claims : Claimed) (sound : AreSound (length bal
   same-assertions : assertions_of file ≡ once
   same-assertions = claims-assertions ballots.rankings once
 
-  -- what refutes all orders of other candidates has an assertion
+  -- a list that refutes all orders of other candidates has an assertion
   some-assertion : AreCandidates ballots.candidates → covers n claims.winner once ≡ true → (a : Assertion) × Member a once
   some-assertion are cover =
       let (order, m) = some_alternative n claims.winner sound.winner (omega (arith, are.fewest)) in
@@ -224,7 +224,7 @@ module _ (budget : Budget) (ballots : BallotFile) (claims : Claimed) (are : AreC
         covered-enough m claims.winner (each_once m claims.assertions) budget h.covered,
       )
 
-  -- who has won is the winner of what proves it
+  -- the winner that a proof names is the candidate who won
   by_order : AllElect m ballots.rankings claims.winner → (order : List ℕ) → is_order m order ≡ true → is_tabulated ballots.rankings order ≡ true →
       IsWinner m ballots.rankings claims.winner
   by_order all order whole tab =

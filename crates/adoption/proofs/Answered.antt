@@ -1,4 +1,4 @@
--- The answer by who has won.
+-- The answer, depending on who won.
 use Rattle.std.proofs.Common.{◌≡◌, ◌∙◌, ℕ, ◌<◌, Bool, true, false, ◌==◌, not, if◌then◌else◌, List, length, Option, None, Some, Result, Ok, Err, IfOk, IfErr, refl, sym, ap, ap₂}
 use Rattle.std.specs.Prelude.{find, option_map, unwrap_or}
 use Rattle.irv_base.proofs.Decided.{elected-below}
@@ -63,7 +63,7 @@ module _ (budget : Budget) (ballots : BallotFile) (claims : Claimed) (winner : �
       passed-winner e ∙ ap (λ found. unwrap_or (option_map (λ a. Ok (Untrue a)) found) (unwrap_or (uncovered budget n claims) adopted)) none
       ∙ ap (λ said. unwrap_or (unless_covered said) adopted) is
 
-  -- ---- back from the answer that they are adopted
+  -- ---- back from the answer that the claims are adopted
 
   pub record Passed : Type 0 where
     pub won : (claims.winner == winner) ≡ true
@@ -85,7 +85,7 @@ module _ (budget : Budget) (ballots : BallotFile) (claims : Claimed) (winner : �
     by false e = let bad = sym (on-other e) ∙ h in absurd cc
     by true e = of_found e found refl
 
-  -- ---- and from a fault
+  -- ---- back from a fault
 
   fault-cover : (said : Result Verdict CoverFault) (fault : CoverFault) → unwrap_or (unless_covered said) adopted ≡ Err fault → said ≡ Err fault
   fault-cover (Ok Covered) fault h = absurd cc

@@ -63,7 +63,7 @@ module _ (n : ℕ) (list : List Assertion) where
       let (b, k, same) = from_list_any (is_same a) list listed in
       (subst (λ c. Member c list) (sym (is_the_same a b same)) k, assertion-proper n a among)
 
-  -- a list in the fixed order that has the same assertions is this one
+  -- a list in the fixed order with the same assertions is this one
   pub once-is : (kept : List Assertion) → All (λ a. IsTrue (is_proper n a)) list → IsStrictlySortedBy ghosts.cmp kept →
       ((a : Assertion) → Contains kept a → Contains list a) → ((a : Assertion) → Contains list a → Contains kept a) → kept ≡ each_once n list
   once-is kept proper sorted from to =
@@ -73,7 +73,7 @@ module _ (n : ℕ) (list : List Assertion) where
       once-member a (member-from_contains a list listed) (All-contains (λ a. IsTrue (is_proper n a)) list a proper listed))
       (λ a m. let (listed, ok) = once-from a m in member-from_contains a kept (to a (contains-from_member listed)))
 
--- ---- equality of assertions, as the code has it
+-- ---- equality of assertions, as in the code
 
 is_eq-Equal : (o : Ordering) → is_eq o ≡ true → o ≡ Equal
 is_eq-Equal Less h = cc

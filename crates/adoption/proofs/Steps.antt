@@ -25,7 +25,7 @@ true-of records a h = elim (cases_lt (votes_against records a) (votes_for record
       absurd cc
 ]
 
--- where each claim has a margin, none is found that isn't true
+-- if each claim has a margin, no claim is found to be untrue
 pub none-found : (n : ℕ) (records : List (List ℕ)) (list : List Assertion) (claims : List Claim) → All (λ a. IsTrue (is_proper n a)) list →
     claims ≡ map (claim_of records) (each_once n list) → list_all has_margin claims ≡ true → find (λ a. not (is_true records a)) list ≡ None
 none-found n records list claims proper same all =

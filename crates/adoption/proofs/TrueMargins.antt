@@ -55,7 +55,7 @@ module _ (n : ℕ) (records : List (List ℕ)) (list : List Assertion) (proper :
   abbrev margin_in : Claim → ℕ
   margin_in claim = claim.margin
 
-  -- where there is a claim, the smallest margin is one of them
+  -- if there is a claim, the smallest margin is the margin of a claim
   pub smallest-claim : (a : Assertion) → Member a list → (claim : Claim) × Member claim claims × (claim.margin ≡ least (map margin_in claims))
   smallest-claim a m = from_map margin_in (least (map margin_in claims)) claims (least_is (member-map margin_in (member-map (claim_of records) m)))
 

@@ -1,4 +1,4 @@
--- The file that claims are adopted as.
+-- The file as which claims are adopted.
 use Rattle.std.specs.Prelude.{◌≡◌, ◌↔◌, ℕ, Bool, not, ◌==◌, List, length, map, filter, None, AllPairs, Contains, IsTrue}
 use Rattle.std.specs.List.{list_any}
 use Rattle.irv_base.specs.Tabulation.{least}
@@ -21,11 +21,11 @@ is_listed list a = list_any (is_same a) list
 abbrev pub each_once : ℕ → List Assertion → List Assertion
 each_once n list = filter (is_listed list) (assertions n)
 
--- one that isn't true has none
+-- a claim whose assertion isn't true has no margin
 abbrev pub has_margin : Claim → Bool
 has_margin claim = not (claim.margin == 0)
 
--- about the contest of the ballots, with the smallest margin of these claims, and nothing that says that it is the best
+-- a file about the contest of the ballots that has the smallest margin of these claims, and nothing that says that it is the best
 abbrev pub file_with : BallotFile → ℕ → List Claim → Content
 file_with ballots winner claims = record {
   contest = ballots.contest;
@@ -44,10 +44,10 @@ adopted_file ballots claims =
     file_with ballots claims.winner
     (map (claim_of ballots.rankings) (each_once (length ballots.candidates) claims.assertions))
 
--- ---- as one reads it
+-- ---- the same for a reader
 
--- the claims that were made are a proof of their winner: each is true of the records, and they refute every order that elects another
--- candidate; the file holds of the ballots, and has these claims with their margins, each once, in the fixed order
+-- the claims prove their winner: each is true of the records, and together they refute every order that elects another candidate; the file
+-- holds of the ballots, and has these claims with their margins, each once, in the fixed order
 pub record IsAdopted (ballots : BallotFile) (claims : Claimed) (file : Content) : Type 0 where
   pub proof : IsProof (length ballots.candidates) claims.winner ballots.rankings claims.assertions
   pub holds : Holds ballots file

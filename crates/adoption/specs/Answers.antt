@@ -22,7 +22,7 @@ abbrev pub other_winner : ℕ → Claimed → Option Answer
 other_winner winner claims =
     if claims.winner == winner then None else Some (Ok (OtherWinner winner))
 
--- the first of the claims that isn't true of these records
+-- the first claim that isn't true of these records
 abbrev pub untrue : List (List ℕ) → Claimed → Option Answer
 untrue records claims =
     option_map (λ a. Ok (Untrue a)) (find (λ a. not (is_true records a)) claims.assertions)
@@ -37,7 +37,7 @@ abbrev pub uncovered : Budget → ℕ → Claimed → Option Answer
 uncovered budget n claims =
     unless_covered (covered_is n claims.winner (each_once n claims.assertions) budget)
 
--- the first that is found; claims in which nothing is, are adopted
+-- the first finding; claims with no finding are adopted
 abbrev pub adoption_is : Budget → BallotFile → Claimed → ℕ → Answer
 adoption_is budget ballots claims winner =
     unwrap_or (other_winner winner claims)
@@ -45,14 +45,14 @@ adoption_is budget ballots claims winner =
     (unwrap_or (uncovered budget (length ballots.candidates) claims)
     (Ok (Adopted (adopted_file ballots claims)))))
 
--- who has won the contest, and the answer by that
+-- who won the contest, and the answer that follows from it
 pub record IsAnswer (budget : Budget) (ballots : BallotFile) (claims : Claimed) (answer : Answer)
     : Type 0 where
   pub winner : ℕ
   pub tabulated : IsWinner (length ballots.candidates) ballots.rankings winner
   pub answer_is : adoption_is budget ballots claims winner ≡ answer
 
--- what a fault says; want of memory says nothing
+-- what a fault says; running out of memory says nothing
 abbrev pub IsFault : Budget → BallotFile → Claimed → CoverFault → Type 0
 IsFault budget ballots claims (Spent last) = IsAnswer budget ballots claims (Err (Spent last))
 IsFault budget ballots claims (SpentSets sets) =

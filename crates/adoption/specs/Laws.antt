@@ -24,8 +24,8 @@ AdoptedIs =
     AreCandidates ballots.candidates → AreSound (length ballots.candidates) claims →
     IsAnswer budget ballots claims (Ok (Adopted file)) → IsAdopted ballots claims file
 
--- claims are adopted exactly if they are a proof of their winner (true, and refuting every order that elects another candidate) and the
--- budget is enough
+-- claims are adopted exactly if they prove their winner (they are true and refute every order that elects another candidate) and the budget
+-- is enough
 abbrev pub AdoptedExactly : Type 0
 AdoptedExactly =
     (budget : Budget) (ballots : BallotFile) (claims : Claimed) →
@@ -35,7 +35,7 @@ AdoptedExactly =
     × IsEnough budget (length ballots.candidates) claims.winner
     (each_once (length ballots.candidates) claims.assertions)))
 
--- an adopted file is accepted by a check within the same budget
+-- a check within the same budget accepts an adopted file
 abbrev pub AdoptedIsAccepted : Type 0
 AdoptedIsAccepted =
     (budget : Budget) (ballots : BallotFile) (claims : Claimed) (file : Content) →

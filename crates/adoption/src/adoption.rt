@@ -1,17 +1,17 @@
-// What comes of claims.
+// The outcome of an adoption.
 use assertion_file::AssertionFile;
 use assertions::Assertion;
 use irv_base::{Candidate, Order};
 
-/// What comes of the claims of a file. If they can't be adopted, the first that is found in this order.
+/// The outcome of adopting the claims of a file. If they can't be adopted, it is the first finding in this order.
 #[derive(Drop)]
 pub enum Adoption {
     /// The winner of the contest is this one.
     OtherWinner(Candidate),
-    /// This is the first of the claims that isn't true of the ballots.
+    /// This is the first claim that isn't true of the ballots.
     Untrue(Assertion),
-    /// The claims don't refute this order, which elects another candidate: the least of these, all read backwards.
+    /// The claims don't refute this order, which elects another candidate. It is the least of these orders when all are read backwards.
     Stands(Order),
-    /// They are true and refute each such order. This file has them with their margins.
+    /// The claims are true and refute every order that elects another candidate. This file has them with their margins.
     Adopted(AssertionFile),
 }

@@ -7,7 +7,7 @@ use assertions::Assertion;
 use irv_base::Memory;
 use std::alloc::Global;
 
-/// The assertions of the list, each once, in the fixed order.
+/// Returns the assertions of the list, each once, in the fixed order.
 pub fn each_once(alloc: Global, list: &[Assertion]) -> Result<Vec<Assertion>, Memory>
     ensures { IfOk result (λ kept. (n : ℕ) → All (λ a. IsTrue (is_proper n a)) list.now →
         kept.items ≡ each_once n list.now) }

@@ -30,8 +30,8 @@ fn have_margins(claims: &[Claim]) -> bool
     claims.iter().all(|claim| claim.margin != 0)
 }
 
-// The first of the assertions that isn't true. With their margins, each once in the fixed order, they are these claims: if all of these are
-// true, no other margin is asked for.
+// The first assertion that isn't true. The claims are the assertions with their margins, each once, in the fixed order. If all claims are
+// true, no other margin is computed.
 fn untrue(
     list: &[Assertion],
     claims: &[Claim],
@@ -49,7 +49,7 @@ fn untrue(
     first_untrue(list, tallies)
 }
 
-// The file of the contest that has these claims.
+// The contest's file with these claims.
 fn file_with(
     alloc: Global,
     votes: &Votes,
@@ -73,12 +73,12 @@ fn file_with(
     }))
 }
 
-/// What comes of the claims over the votes, whose tallies these are: the assertion file that has them with their margins, each once, in
-/// the fixed order, if all of them are true and they refute every order that elects another candidate. If they don't, the answer is the
-/// first that is found, in the order of `Adoption`; a budget is spent if `covered` says so for the claims. What the claims file says of
-/// margins has no part in it. Claims that can be adopted prove the winner, whatever ties the contest has.
+/// Adopts the claims over the votes, whose tallies these are. If all claims are true and they refute every order that elects another
+/// candidate, the answer is the assertion file that has them with their margins, each once, in the fixed order. If not, the answer is the
+/// first finding in the order of `Adoption`. The budget runs out if `covered` says so for the claims. What the claims file says about
+/// margins doesn't matter. Claims that can be adopted prove the winner, whatever ties the contest has.
 ///
-/// The other error is want of memory.
+/// The other error is running out of memory.
 pub fn adopt(
     alloc: Global,
     votes: &Votes,
@@ -94,7 +94,7 @@ pub fn adopt(
     ensures same { tallies.new ≡ tallies.old }
 {
     let n = votes.candidates().len() as u32;
-    // Asks for what its contract says: there are few enough records for a margin to be a number of a file.
+    // Calls this for what its contract says: there are few enough records for a margin to be a number in a file.
     let _records = votes.records();
     let Ok(winner) = winner_of(alloc, tallies) else {
         return Err(CoverFault::Memory);

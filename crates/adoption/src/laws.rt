@@ -1,7 +1,7 @@
-//! What an adoption says: each law holds of every value that it names, and has no code.
+//! What an adoption says. Each law holds of every value that it names, and has no code.
 ghost use Rattle.adoption.specs.Laws.{AdoptedExactly, AdoptedIs, AdoptedIsAccepted, AnswerIsOne};
 
-/// Claims that are adopted prove their winner; the file holds of the ballots, and its assertions are those of the claims, each once, in the
+/// Claims that are adopted prove their winner. The file holds of the ballots, and its assertions are those of the claims, each once, in the
 /// fixed order.
 pub fn adopted_is()
     ensures { AdoptedIs }

@@ -1,5 +1,5 @@
-//! Adoption: the assertions that somebody names for a contest, as an assertion file with their margins over the ballots, if they are true
-//! and refute every order that elects another candidate. It uses no search.
+//! Adoption turns the assertions that somebody names for a contest into an assertion file with their margins over the ballots, if they are
+//! true and refute every order that elects another candidate. It uses no search.
 #![tactic(auto)]
 
 mod adoption;

@@ -10,7 +10,7 @@ use irv_base::Memory;
 use set_tallies::Tallies;
 use std::alloc::Global;
 
-/// The first of the assertions that isn't true of the records of the tallies.
+/// Returns the first assertion that isn't true of the records of the tallies.
 pub fn first_untrue(
     list: &[Assertion],
     tallies: &mut Tallies<'_>,
@@ -28,7 +28,7 @@ pub fn first_untrue(
     Ok(None)
 }
 
-/// The assertions with their margins over the records of the tallies, and 0 for one that isn't true.
+/// Returns the assertions with their margins over the records of the tallies. An assertion that isn't true has margin 0.
 pub fn with_margins(
     alloc: Global,
     list: &[Assertion],

@@ -12,7 +12,7 @@ use std::marker::Model;
 
 /// The values that make up an assertion file. The type doesn't say that they are those of a file.
 ///
-/// To a contract they are the record of these values, with a list for each list.
+/// In a contract, they are the record of these values, with a list for each list.
 #[derive(Drop)]
 pub struct Parts {
     /// The id of the contest.
@@ -60,7 +60,7 @@ impl Model for Parts {
 /// `MOST_CARDS`, with a gamma of 1 to `GREATEST_GAMMA` and a limit of 1 to `GREATEST_LIMIT`, and for each claim it has 1 to `MOST_DRAWS`
 /// draws, or none. It is up to a checker to find out whether the file is true of any ballots.
 ///
-/// To a contract a file is the record of these values, with a list for each list.
+/// In a contract, a file is the record of these values, with a list for each list.
 #[derive(Drop)]
 pub struct AssertionFile {
     parts: Parts,

@@ -5,7 +5,7 @@ use std::marker::Model;
 /// the risk limit `limit` is in millionths. For each assertion, in the file's order, `draws` has the number of draws that confirm it, or
 /// `None` if that takes a full count.
 ///
-/// To a contract it is the record of these values, with a list of the draws.
+/// In a contract, it is the record of these values, with a list of the draws.
 #[derive(Drop)]
 pub struct PlanFacts {
     /// The number of cards in the manifest.

@@ -1,4 +1,4 @@
--- There is an alternative order, and one has the best margin.
+-- There is an alternative order, and one of the alternative orders has the best margin.
 use Rattle.std.proofs.Common.{Bool, Contains, List, Some, [], arith, eq-eqb, eqb-true, false, if◌then◌else◌, inl, inr, length, map, ne_eqb, not, suc, true, zero, ℕ, ◌+◌, ◌-◌, ◌<◌, ◌==◌, ◌∷◌, ◌≡◌, ◌≢◌, ◌≤◌}
 use Rattle.std.proofs.lemmas.Bool.{and_cases, cases_eq, false_from_ne_true, not_from_false}
 use Rattle.std.specs.List.{list_all}
@@ -18,7 +18,7 @@ from_not_all p (x ∷ xs) h =
       | inr r ↦ let (y, m, f) = from_not_all p xs r in (y, there m, f)
     ]
 
--- each suffix is that of some order
+-- each suffix is the suffix of some order
 pub some_ending : (n k : ℕ) (t : List ℕ) → k + length t ≡ n → (order : List ℕ) × Member order (orders_ending n k t)
 some_ending n zero t long = (t, here)
 some_ending n (suc k) t long =

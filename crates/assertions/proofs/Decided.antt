@@ -1,4 +1,5 @@
--- Decided contests: all possible orders elect one candidate exactly where each other order has something true against it.
+-- Decided contests: all possible orders elect one candidate exactly if each order that elects another is
+-- refuted by a true assertion.
 use Rattle.std.proofs.Common.{◌≡◌, ◌≢◌, ◌↔◌, ℕ, ◌<◌, ◌≤◌, ◌||◌, ◌==◌, not, Bool, true, false, nat_le, inl, inr, List, [], ◌∷◌, ◌++◌, map, reverse, refl, sym, ap, subst, arith, append_assoc, eq-eqb, leb-false, lt-ltb, ltb-true, ◌∙◌}
 use Rattle.std.proofs.lemmas.Bool.{and_parts, and_from, and_cases, cases_eq, cases_lt, eqb-false, ne_eqb, not-true}
 use Rattle.std.proofs.lemmas.List.{reverse-append, reverse-reverse}
@@ -31,7 +32,7 @@ use Rattle.irv_base.proofs.Losing.{loser-goes}
 use Rattle.irv_base.proofs.Tabulated.{tabulated-possible}
 use Rattle.irv_base.proofs.Decided.{one-elected, elected-below, decided_by_tabulated, turned-order, turned-possible, possible-turned}
 
--- ---- what is true against orders
+-- ---- which true assertions refute orders
 from_not_all : (p : ℕ → Bool) (xs : List ℕ) → list_all p xs ≡ false → (x : ℕ) × Member x xs × (p x ≡ false)
 from_not_all p [] h = cc
 from_not_all p (x ∷ xs) h =
@@ -160,7 +161,7 @@ pub proof_iff_decided : (n winner : ℕ) (records : List (List ℕ)) → winner 
 proof_iff_decided n winner records below two =
     (λ h. proof-decided n winner records below two h.0 h.1, decided-proof n winner records below two)
 
--- ---- one who isn't eliminated before any other
+-- ---- a candidate who isn't eliminated before any other
 module _ (n winner : ℕ) (records : List (List ℕ)) (below : winner < n) (two : 1 < n)
     (over : (l : ℕ) → l < n → l ≢ winner → is_true records (Neb winner l) ≡ true) where
   abbrev over_all : List Assertion

@@ -1,4 +1,4 @@
--- Covering sets, and the orders that nothing true refutes.
+-- Covering sets, and the orders that no true assertion refutes.
 use Rattle.std.proofs.Common.{List, [], ap, append_assoc, arith, eq-eqb, inl, inr, le-leb, length, ltb-true, nat_le, refl, subst, sym, true, ℕ, ◌++◌, ◌-◌, ◌<◌, ◌==◌, ◌↔◌, ◌∙◌, ◌∷◌, ◌≡◌, ◌≤◌}
 use Rattle.std.proofs.lemmas.Bool.{and_from, cases_eq, cases_lt}
 use Rattle.std.specs.List.{list_all, list_any}
@@ -51,7 +51,7 @@ cover_is_sound n winner claims below proper covering records true' order h possi
           absurd (omega arith)
     ]
 
--- ---- possible orders are those that nothing true refutes
+-- ---- possible orders are those that no true assertion refutes
 unrefuted-possible : (n : ℕ) (records : List (List ℕ)) (order : List ℕ) → Order n order → low n records order ≡ 0 →
     (before t : List ℕ) → order ≡ before ++ t → is_possible records t ≡ true
 unrefuted-possible n records order o easy before [] same = refl

@@ -69,7 +69,7 @@ end-member n winner c low margin s ne below m is =
 pub from_end : (n winner : ℕ) (low : List ℕ → ℕ) (margin : ℕ) (s : List ℕ) → Member s (certificate_ends n winner low margin) → is_end low margin s ≡ true
 from_end n winner low margin s m = (from_filter (is_end low margin) (alternative_suffixes n winner) m).1
 
--- each alternative order of at least the margin has one
+-- each alternative order whose hardness is at least the margin has one
 pub alternative-end : (n winner c : ℕ) (low : List ℕ → ℕ) (margin : ℕ) (order : List ℕ) → Order n order → c ≢ winner → Elects order c → margin ≤ low order →
     (s : List ℕ) × Member s (certificate_ends n winner low margin) × EndsIn order s
 alternative-end n winner c low margin order o ne (before, same) le =

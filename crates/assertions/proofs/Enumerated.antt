@@ -1,4 +1,4 @@
--- The suffixes that end in one are listed, each once, in order.
+-- The suffixes that end in a given one are listed, each once, in order.
 use Rattle.std.proofs.Common.{Bool, Contains, List, [], ap, append_assoc, arith, cond, eq-eqb, false, if◌then◌else◌, inl, inr, length, length-append, lt-ltb, nat_lt, refl, reverse, subst, suc, sym, true, zero, ℕ, ◌&&◌, ◌++◌, ◌+◌, ◌<◌, ◌==◌, ◌↔◌, ◌∙◌, ◌∷◌, ◌≡◌, ◌≤◌}
 use Rattle.std.proofs.lemmas.Bool.{and_from, or_right}
 use Rattle.std.specs.List.{list_all}

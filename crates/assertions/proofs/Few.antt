@@ -1,4 +1,4 @@
--- How many suffixes that are no whole orders end in a candidate.
+-- The number of suffixes that aren't whole orders and end in a candidate.
 use Rattle.std.proofs.Common.{Bool, List, [], ap, arith, cond, count_by, false, filter, flat_map, inl, inr, le_trans, length, length-append, ltb-true, nat_le, nat_lt, not, refl, subst, suc, sym, true, zero, ℕ, ◌&&◌, ◌*◌, ◌+◌, ◌-◌, ◌<◌, ◌∙◌, ◌∷◌, ◌≡◌, ◌≤◌}
 use Rattle.std.proofs.Math.Nat.{mul-le-mul_left, mul-le-mul_right}
 use Rattle.std.proofs.lemmas.Bool.{cases_Bool}
@@ -15,7 +15,7 @@ use Rattle.assertions.specs.Suffixes.{comes_before, factorial, parts_ending, suf
 use Rattle.assertions.proofs.Endings.{Suffix, one_alone}
 use Rattle.assertions.proofs.Enumerated.{child, children_ending}
 
--- ---- how many there can be of those that put k more in front
+-- ---- the maximum number of those that put k more candidates in front
 bound : ℕ → ℕ
 bound zero = 0
 bound (suc k) = 1 + suc k * bound k

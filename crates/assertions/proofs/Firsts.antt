@@ -1,4 +1,5 @@
--- The alternative orders come in order, read backwards: the first that passes a test is the least that does.
+-- The alternative orders are in increasing order when read backwards, so the first that passes a test is the smallest that passes
+-- it.
 use Rattle.std.proofs.Common.{Bool, Contains, List, None, Option, Some, [], ap, append_assoc, eq-eqb, find, flat_map, if◌then◌else◌, inl, inr, lt-ltb, nat_lt, not, refl, reverse, subst₂, suc, sym, true, zero, ℕ, ◌&&◌, ◌++◌, ◌-◌, ◌<◌, ◌==◌, ◌∙◌, ◌∷◌, ◌≡◌, ◌⊎◌}
 use Rattle.std.proofs.lemmas.Bool.{and_from, cases_Bool, or_left, or_right}
 use Rattle.std.proofs.lemmas.List.{reverse-append}
@@ -13,7 +14,7 @@ use Rattle.assertions.specs.Lists.{stands_before}
 use Rattle.assertions.specs.Suffixes.{alternative_orders, comes_before, orders_ending}
 use Rattle.assertions.proofs.Sorted.{Sorted, more, none, sorted-filter, sorted-range}
 
--- the first that passes is before each other that does, where that is so within each piece and across pieces
+-- the first order that passes comes before each other order that does, if this holds within each piece and across pieces
 module _ (f : ℕ → List (List ℕ)) (R : List ℕ → List ℕ → Type 0) (p : List ℕ → Bool)
     (within : (c : ℕ) (x y : List ℕ) → find p (f c) ≡ Some x → Member y (f c) → p y ≡ true → (x ≡ y) ⊎ R x y)
     (across : (c d : ℕ) (x y : List ℕ) → c < d → Member x (f c) → Member y (f d) → R x y) where

@@ -1,4 +1,4 @@
--- The list of all proper assertions stands in the fixed order.
+-- The list of all proper assertions is in the fixed order.
 use Rattle.std.proofs.Common.{List, [], ap, arith, eq-eqb, false, inl, inr, lt-ltb, ltb-true, map, nat_lt, not, refl, subst, sym, true, ℕ, ◌&&◌, ◌<◌, ◌==◌, ◌^◌, ◌∷◌, ◌≡◌, ◌⊎◌}
 use Rattle.std.proofs.lemmas.Bool.{and_from, and_parts, or_cases, or_left, or_right}
 use Rattle.irv_base.specs.Candidates.{all_but, has}

@@ -1,4 +1,4 @@
--- The greatest of a list, by membership.
+-- The greatest number of a list, by membership.
 use Rattle.std.proofs.Common.{List, [], arith, fold, inl, inr, max, refl, ℕ, ◌<◌, ◌∷◌, ◌≡◌, ◌≤◌, ◌⊎◌}
 use Rattle.std.proofs.lemmas.Bool.{cases_lt}
 use Rattle.irv_base.proofs.Members.{Member, here, member_at, there}

@@ -1,4 +1,4 @@
--- The list of all proper assertions has these and no other.
+-- The list of all proper assertions has exactly these.
 use Rattle.std.proofs.Common.{List, arith, inl, inr, map, ne_eqb, not, subst, sym, true, ℕ, ◌&&◌, ◌<◌, ◌==◌, ◌^◌, ◌≡◌}
 use Rattle.std.proofs.lemmas.Bool.{and_from, and_parts, eqb-false, not-true, not_from_false}
 use Rattle.std.specs.List.{range_with_len}

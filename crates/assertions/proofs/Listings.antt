@@ -1,4 +1,4 @@
--- The orders and the suffixes that elect others are listed each once, in order; where the search starts.
+-- The orders and the suffixes that elect other candidates are listed, each once, in order; and where the search starts.
 use Rattle.std.proofs.Common.{AllPairs, Bool, Contains, List, [], ap, append_assoc, arith, cond, eq-eqb, false, if◌then◌else◌, inl, inr, length, length-append, lt-ltb, ltb-true, nat_lt, not, reverse, subst, suc, sym, true, zero, ℕ, ◌++◌, ◌-◌, ◌<◌, ◌==◌, ◌↔◌, ◌∙◌, ◌∷◌, ◌≡◌}
 use Rattle.std.proofs.lemmas.Bool.{and_from}
 use Rattle.std.proofs.lemmas.List.{reverse-append, reverse-reverse}
@@ -59,7 +59,7 @@ parts_ending_are n c s below = (forth, back) where
       (omega (arith, ap length same, length-append before (c ∷ [])))) in
       contains-from_member (member-filter (λ suffix. nat_lt (length suffix) n) (suffixes_ending n (n - 1) (c ∷ [])) m (lt-ltb (length s) n lt))
 
--- ---- the order that the search starts from
+-- ---- the order from which the search starts
 exchanged-last : (before : List ℕ) (a b : ℕ) → start_order (before ++ a ∷ b ∷ []) ≡ before ++ b ∷ a ∷ []
 exchanged-last before a b =
     ap (λ r. reverse (with_first_two_exchanged r)) (reverse-append before (a ∷ b ∷ []))

@@ -1,4 +1,4 @@
--- The set of a suffix, made candidate by candidate.
+-- The set of a suffix, built candidate by candidate.
 use Rattle.std.proofs.Common.{◌≡◌, ℕ, ◌+◌, ◌^◌, ◌<◌, true, false, List, [], ◌∷◌, ◌++◌, length, get_or, take, drop, sym, ap, subst, take-append-drop, ◌∙◌}
 use Rattle.std.proofs.lemmas.List.{take_more, drop_more}
 use Rattle.std.proofs.lemmas.List.Sums.{sum_by_push}

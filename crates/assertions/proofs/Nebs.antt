@@ -1,4 +1,4 @@
--- A NEB compares w at its worst, with all candidates left, to l at its best, with w and l alone.
+-- A NEB compares w at its worst, with all candidates left, to l at its best, with only w and l left.
 use Rattle.std.proofs.Common.{List, [], ap, cond, count_by, eqb-true, false, inl, inr, le_antisymm, ltb-true, nat_lt, ne_eqb, refl, sym, true, ℕ, ◌+◌, ◌<◌, ◌==◌, ◌||◌, ◌∙◌, ◌∷◌, ◌≡◌, ◌≢◌}
 use Rattle.std.proofs.lemmas.Bool.{and_parts, cases_Bool, eqb-false, or_from}
 use Rattle.std.proofs.lemmas.List.Sums.{sum_by-cons}

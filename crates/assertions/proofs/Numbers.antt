@@ -1,4 +1,4 @@
--- The numbers of assertions stand in the fixed order.
+-- The numbers of assertions are in the fixed order.
 use Rattle.std.proofs.Common.{ap, arith, refl, sym, ℕ, ◌∙◌, ◌+◌, ◌*◌, ◌<◌, ◌≡◌}
 use Rattle.std.proofs.lemmas.Bool.Decides.{nat_tests}
 use Rattle.std.specs.Cmp.{nat_cmp_is}

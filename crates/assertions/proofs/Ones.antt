@@ -1,4 +1,4 @@
--- The certificate is one value.
+-- The certificate is unique.
 use Rattle.std.proofs.Common.{Contains, List, Some, [], arith, inl, inr, le_antisymm, length, length-append, not, reverse, subst, sym, true, ℕ, ◌++◌, ◌-◌, ◌<◌, ◌==◌, ◌∷◌, ◌≡◌, ◌≢◌, ◌≤◌, ◌⊎◌}
 use Rattle.std.proofs.lemmas.Bool.{eqb-false, not-true}
 use Rattle.std.specs.List.{list_any}
@@ -24,7 +24,7 @@ module _ (n winner : ℕ) (records : List (List ℕ)) where
   abbrev best : ℕ
   best = best_margin n winner (low n records)
 
-  -- ---- an end, by the rules
+  -- ---- an end, according to the rules
   pub end-from_member : (s : List ℕ) → Member s (certificate_ends n winner (low n records) best) → IsEnd n records winner best s
   end-from_member s m =
       let (k, is) = from_filter (is_end (low n records) best) (alternative_suffixes n winner) m in
@@ -43,7 +43,7 @@ module _ (n winner : ℕ) (records : List (List ℕ)) where
         subst (λ x. Member x (suffixes_ending n (n - 1) (c ∷ []))) (sym same) (suffixes_ending-member n (n - 1) before (c ∷ []) p short) in
         end-member n winner c (low n records) best s ne (p.below c (member-append_right before here)) m e.shortest
 
-  -- ---- what is defined meets the rules
+  -- ---- the certificate, as it is defined, meets the rules
   pub certificate_is : winner < n → 1 < n →
       (order : List ℕ) × (certificate_order n winner (low n records) best ≡ Some order) × IsCertificate n records winner best order
       (certificate_assertions n records winner)
@@ -79,7 +79,7 @@ module _ (n winner : ℕ) (records : List (List ℕ)) where
       back : (a : Assertion) → (s : List ℕ) × IsEnd n records winner best s × IsRefuter n records s a → Contains (certificate_assertions n records winner) a
       back a (s, e, r) = contains-from_member (certificate-member n winner records a s (member-from_end s e) (refuter-only n records s a r))
 
--- ---- and nothing else does
+-- ---- nothing else meets the rules
 module _ (n winner : ℕ) (records : List (List ℕ)) where
   best-one : (b b' : ℕ) (o o' : List ℕ) (cs cs' : List Assertion) → IsCertificate n records winner b o cs → IsCertificate n records winner b' o' cs' → b ≤ b'
   best-one b b' o o' cs cs' x y = subst (λ z. b ≤ z) y.reached (x.least o' y.alternative)

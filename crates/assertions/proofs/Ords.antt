@@ -1,4 +1,4 @@
--- The fixed order is total, and the one that `Ord` gives.
+-- The fixed order is total, and is the order that `Ord` gives.
 use Rattle.std.proofs.Common.{List, ap, arith, inl, inr, refl, subst, sym, true, ℕ, ◌↔◌, ◌∙◌, ◌≡◌}
 use Rattle.std.proofs.Math.Path.{fun_ext}
 use Rattle.std.proofs.lemmas.Bool.{cases_Bool}

@@ -15,7 +15,7 @@ part_from-same c w t e = rw (eq-eqb c w e)
 pub part_from-other : (c w : ℕ) (t : List ℕ) → (c ≡ w → ⊥) → part_from (c ∷ t) w ≡ part_from t w
 part_from-other c w t e = rw (ne_eqb c w e)
 
--- where w is there, the part begins with it
+-- if w is in the suffix, the part begins with it
 pub part_from-member : {w : ℕ} {t : List ℕ} → Member w t → (rest : List ℕ) × (part_from t w ≡ w ∷ rest)
 part_from-member {w} (here {xs = xs}) = (xs, part_from-same w w xs refl)
 part_from-member {w} (there {y = c} {xs = xs} m) =
@@ -40,7 +40,7 @@ part_from-inside (c ∷ t) w {z} m =
       | inr ne ↦ there (part_from-inside t w (subst (Member z) (part_from-other c w t ne) m))
     ]
 
--- the part of a list whose elements all pass
+-- the part of a list, all of whose elements pass
 pub All-part_from : (P : ℕ → Type 0) (t : List ℕ) (w : ℕ) → All P t → All P (part_from t w)
 All-part_from P [] w h = h
 All-part_from P (c ∷ t) w h =
@@ -58,7 +58,7 @@ is_distinct-part_from (c ∷ t) w h =
           (is_distinct-part_from t w (and_parts (not (is_in t c)) (is_distinct t) h).1)
     ]
 
--- of two that are there, one is in the part part_from the other on
+-- of two candidates in the suffix, one is in the part from the other on
 pub part_from-either : (w l : ℕ) (t : List ℕ) → Member w t → Member l t → Member w (part_from t l) ⊎ Member l (part_from t w)
 part_from-either w l [] m k = absurd (member_nil m)
 part_from-either w l (c ∷ t) m k =

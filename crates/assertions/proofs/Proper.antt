@@ -1,4 +1,4 @@
--- What it says that an assertion is proper.
+-- What it means for an assertion to be proper.
 use Rattle.std.proofs.Common.{lt-ltb, ltb-true, nat_lt, ne_eqb, not, true, ℕ, ◌&&◌, ◌<◌, ◌==◌, ◌^◌, ◌≡◌}
 use Rattle.std.proofs.lemmas.Bool.{and_from, and_parts, eqb-false, not-true, not_from_false}
 use Rattle.irv_base.specs.Candidates.{has}

@@ -1,4 +1,4 @@
--- The records may stand in any order.
+-- The records may be in any order.
 use Rattle.std.proofs.Common.{List, Option, cond, filter, find, map, nat_lt, sym, ℕ, ◌&&◌, ◌-◌, ◌==◌, ◌≡◌}
 use Rattle.std.proofs.lemmas.List.Sorted.{sum_by-IsPermutation}
 use Rattle.std.specs.List.{list_any}
@@ -20,7 +20,7 @@ votes_against-reordered : (records others : List (List ℕ)) → IsPermutation r
 votes_against-reordered records others h (Neb w l) = sym (sum_by-IsPermutation (λ r. cond (is_ahead r l w) 1 0) records others h)
 votes_against-reordered records others h (Nen w l rest) = sym (sum_by-IsPermutation (λ r. cond (is_some_of (top r rest) l) 1 0) records others h)
 
--- the definitions see the records by these two numbers alone
+-- the definitions see the records only through these two numbers
 abbrev refuters_by : (Assertion → ℕ) → (Assertion → ℕ) → ℕ → List ℕ → List Assertion
 refuters_by f g n suffix = filter (λ a. refutes a suffix && nat_lt (g a) (f a)) (assertions n)
 

@@ -1,4 +1,4 @@
--- The score of a suffix, by a fact that one more assertion keeps, and that only one score has.
+-- The score of a suffix, from a fact that is preserved by one more assertion, and that only one score satisfies.
 use Rattle.std.proofs.Common.{Bool, List, None, Option, Some, [], ap, arith, cond, eq-eqb, eqb-true, false, inl, inr, lt-ltb, ltb-true, nat_lt, refl, subst, sym, true, ℕ, ◌&&◌, ◌<◌, ◌==◌, ◌||◌, ◌∙◌, ◌∷◌, ◌≡◌, ◌≤◌, ◌⊎◌}
 use Rattle.std.proofs.lemmas.Bool.{and_from, and_parts, both_ways, cases_Bool, cases_lt, or_cases, or_left, or_right}
 use Rattle.irv_base.proofs.Distinct.{distinct-head}
@@ -18,7 +18,7 @@ use Rattle.assertions.proofs.Parts.{refutes_more}
 use Rattle.assertions.proofs.Refuters.{refuter-first, refuter_or_none}
 use Rattle.assertions.proofs.Steps.{added-refutes, split_refuter}
 
--- the assertion is among those of S, has the margin, and no other that has it stands before it
+-- the assertion is in S and has the margin, and no other assertion in S with this margin comes before it
 abbrev pub Held : List (List ℕ) → (Assertion → Type 0) → ℕ → Option Assertion → Type 0
 Held records S m None = m ≡ 0
 Held records S m (Some b) = S b × (true_margin records b ≡ m) × (0 < m) × ((a : Assertion) → S a → true_margin records a ≡ m → (a ≡ b) ⊎ Before b a)
@@ -66,7 +66,7 @@ module _ (records : List (List ℕ)) where
   abbrev With : (Assertion → Type 0) → Assertion → Assertion → Type 0
   With S y a = S a ⊎ (a ≡ y)
 
-  -- one more assertion, by the tests that are made of it
+  -- one more assertion, by the tests that are made on it
   stays : (S : Assertion → Type 0) (y : Assertion) (m : ℕ) (o : Option Assertion) → Held records S m o → (m < true_margin records y → ⊥) →
       (m ≡ true_margin records y → is_before_that y o ≡ false) → Held records (With S y) m o
   stays S y m None h most later = h

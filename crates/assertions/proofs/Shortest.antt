@@ -19,7 +19,7 @@ use Rattle.assertions.proofs.Enumerated.{ends_longer, suffix-rest, suffix_test}
 use Rattle.assertions.proofs.Lows.{from_refuter, low-refuter, low_of_suffix, positive, refuter_is}
 use Rattle.assertions.proofs.Ones.{member-from_end}
 
--- of two suffixes of one list, one ends in the other
+-- of two suffixes of the same list, one ends in the other
 either-ends : (b b' s s' : List ℕ) → b ++ s ≡ b' ++ s' → EndsIn s s' ⊎ EndsIn s' s
 either-ends [] b' s s' e = inl (b', e)
 either-ends (x ∷ b) [] s s' e = inr (x ∷ b, sym e)

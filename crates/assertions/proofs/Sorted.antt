@@ -1,4 +1,4 @@
--- Lists that rise in an order.
+-- Lists that are increasing in an order.
 use Rattle.std.proofs.Common.{AllPairs, Bool, List, Some, [], ap, arith, cond, false, filter, find, flat_map, get_or, inl, inr, length, map, refl, subst, subst₂, suc, sym, true, zero, ℕ, ◌++◌, ◌+◌, ◌<◌, ◌∙◌, ◌∷◌, ◌≡◌, ◌⊎◌}
 use Rattle.std.proofs.lemmas.Bool.{both_ways}
 use Rattle.std.specs.List.{range_with_len}
@@ -39,7 +39,7 @@ pub sorted-range : (a n : ℕ) → Sorted ◌<◌ (range_with_len a n)
 sorted-range a zero = none
 sorted-range a (suc n) = more (λ d m. let h = from_range d (a + 1) n m in omega arith) (sorted-range (a + 1) n)
 
--- what `find` gives stands before each other that passes
+-- what `find` returns comes before each other element that passes
 pub find-first : {X : Type 0} (R : X → X → Type 0) (p : X → Bool) (b a : X) {xs : List X} → Sorted R xs → find p xs ≡ Some b → Member a xs → p a ≡ true →
     (a ≡ b) ⊎ R b a
 find-first R p b a none e m t = absurd (member_nil m)
@@ -69,7 +69,7 @@ sorted-from_pairs R (x ∷ xs) h =
     more (λ y m. let (k, l, e) = contains-from_member m in subst (R x) e (h 0 (suc k) y (omega arith) (omega arith)))
     (sorted-from_pairs R xs (λ i j d l k. h (suc i) (suc j) d (omega arith) (omega arith)))
 
--- sorted lists with the same members, where nothing stands before itself, nor both ways
+-- sorted lists with the same members are equal, if nothing comes before itself or both ways
 pub sorted-same : {X : Type 0} (R : X → X → Type 0) → ((x y : X) → R x y → R y x → ⊥) → (xs ys : List X) → Sorted R xs → Sorted R ys →
     ((x : X) → Member x xs → Member x ys) → ((x : X) → Member x ys → Member x xs) → xs ≡ ys
 sorted-same R anti [] [] s t f g = refl

@@ -1,4 +1,4 @@
--- What one more candidate adds to the low of a suffix, and what the search's frontier says of the best margin.
+-- What one more candidate adds to the low of a suffix, and what the search's frontier says about the best margin.
 use Rattle.std.proofs.Common.{Contains, List, [], ap, append_assoc, arith, eq-eqb, eqb-true, false, filter, inl, inr, le_antisymm, le_trans, leb-true, map, max, nat_le, not, refl, subst, sym, true, ℕ, ◌++◌, ◌<◌, ◌==◌, ◌∙◌, ◌∷◌, ◌≡◌, ◌≤◌, ◌⊎◌}
 use Rattle.std.proofs.lemmas.Bool.{and_from, and_parts, cases_lt, not-true, not_from_false}
 use Rattle.std.specs.List.{list_all}
@@ -27,7 +27,7 @@ module _ (n : ℕ) (records : List (List ℕ)) (c : ℕ) (t : List ℕ) (s : Suf
   apart : {z : ℕ} → Member z t → c ≡ z → ⊥
   apart m e = distinct-head s.apart (subst (λ x. Member x t) (sym e) m)
 
-  -- what refutes the longer suffix refutes the shorter one, or is one of those added
+  -- an assertion that refutes the longer suffix refutes the shorter one, or is one of those added
   pub split_refuter : (a : Assertion) → is_proper n a ≡ true → refutes a (c ∷ t) ≡ true → (refutes a t ≡ true) ⊎ Member a (added_refuters n c t)
   split_refuter (Neb w l) proper r =
       let p = pair_facts n w l proper in
@@ -63,7 +63,7 @@ module _ (n : ℕ) (records : List (List ℕ)) (c : ℕ) (t : List ℕ) (s : Suf
   abbrev pub Refutes : Assertion → Type 0
   Refutes a = (is_proper n a ≡ true) × (refutes a (c ∷ t) ≡ true)
 
-  -- and those added refute it
+  -- those added refute it
   pub added-refutes : (a : Assertion) → Member a (added_refuters n c t) → Refutes a
   added-refutes a m =
       elim (member-append_cases (nebs_against n c (c ∷ t)) (nens_for c (set_of (c ∷ t)) t) m) [

@@ -1,4 +1,4 @@
--- What the assorter values sum up to, and the margin of a true assertion.
+-- The sum of the assorter values, and the margin of a true assertion.
 use Rattle.std.proofs.Common.{Bool, List, None, Option, Some, [], arith, cond, count_by, eqb-true, false, if◌then◌else◌, length, lt-ltb, ltb-true, nat_lt, ne_eqb, pos, refl, sum_by, sym, true, true≢false, ℕ, ◌+◌, ◌-ℤ◌, ◌-◌, ◌<ℤ◌, ◌<◌, ◌≤◌, ◌↔◌, ◌∙◌, ◌∷◌, ◌≡◌}
 use Rattle.std.proofs.lemmas.Int.{ints}
 use Rattle.std.proofs.lemmas.List.Sums.{sum_by-cons}
@@ -9,7 +9,7 @@ use Rattle.assertions.specs.declared.assertion.Assertion.{Assertion}
 use Rattle.assertions.specs.declared.assertion.Assertion.TheVariants.{Neb, Nen}
 use Rattle.assertions.proofs.Proper.{nen_facts, pair_facts}
 
--- each record is worth 1, and one more or one less where it counts
+-- each record is worth 1, and one more or one less if it counts
 summed : (p q : List ℕ → Bool) → ((r : List ℕ) → p r ≡ true → q r ≡ false) → (records : List (List ℕ)) →
     sum_by (λ r. if p r then 2 else (if q r then 0 else 1)) records + count_by q records ≡ length records + count_by p records
 summed p q apart [] = refl

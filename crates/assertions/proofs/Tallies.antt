@@ -27,7 +27,7 @@ first-top : (set w : ℕ) (ranking : List ℕ) → has set w ≡ true → is_fir
 first-top set w [] h f = cc
 first-top set w (c ∷ rest) h f = rw (ap (has set) (eqb-true c w f) ∙ h) f
 
--- and what counts in a set that has w has no w ahead
+-- what counts in a set that has w doesn't have w ahead
 top-ahead : (set l w : ℕ) (ranking : List ℕ) → has set w ≡ true → is_some_of (top ranking set) l ≡ true → is_ahead ranking l w ≡ true
 top-ahead set l w [] h f = cc
 top-ahead set l w (c ∷ rest) h f = go (has set c) refl f (top-ahead set l w rest h) where
@@ -63,7 +63,7 @@ possible-head records w l rest h m =
     leb-true (tally records (set_of (w ∷ rest)) w) (tally records (set_of (w ∷ rest)) l)
     (from_list_all (λ d. nat_le (tally records (set_of (w ∷ rest)) w) (tally records (set_of (w ∷ rest)) d)) m lose)
 
--- in a possible order w has no more votes than another that is left with it
+-- in a possible order, w has at most as many votes as any other candidate left with it
 pub possible-le : (records : List (List ℕ)) (t : List ℕ) (w l : ℕ) → is_possible records t ≡ true → Member w t → Member l (part_from t w) → (w ≡ l → ⊥) →
     tally records (set_of (part_from t w)) w ≤ tally records (set_of (part_from t w)) l
 possible-le records t w l h m k ne =

@@ -1,4 +1,4 @@
--- The certificate of two candidates.
+-- The certificate for two candidates.
 use Rattle.std.proofs.Common.{Bool, List, None, Some, [], ap, arith, cond, eq-eqb, eqb-true, false, filter, find, inl, inr, le-leb, lt-ltb, ltb-true, map, max, nat_le, nat_lt, not, refl, subst, subst₂, suc, sym, true, zero, ℕ, ◌&&◌, ◌++◌, ◌-◌, ◌<◌, ◌==◌, ◌∙◌, ◌∷◌, ◌≡◌, ◌≢◌, ◌≤◌}
 use Rattle.std.proofs.lemmas.Bool.{and_parts, cases_Bool}
 use Rattle.std.specs.List.{list_all, list_any}
@@ -105,7 +105,7 @@ module _ (records : List (List ℕ)) (w l : ℕ) (below : list_all (λ ranking. 
           found true e = refl
           found false e = cc
 
-    -- ---- the one end, and what refutes it
+    -- ---- the only end, and what refutes it
     end : certificate_ends 2 w (low 2 records) lead ≡ (l ∷ []) ∷ []
     end =
         ap (filter (is_end (low 2 records) lead)) suffixes

@@ -1,5 +1,5 @@
 -- RAIRE's two kinds of assertion between a winner w and a loser l, and their margins.
--- NEB, not eliminated before: even with all candidates left, w has more votes than l ever gets while w is there.
+-- NEB, not eliminated before: even with all candidates left, w has more votes than l ever gets while w remains.
 -- NEN, not eliminated next: with exactly the set left, w has more votes than l.
 use Rattle.std.specs.Prelude.{ℕ, ◌-◌, ◌^◌, Bool, not, ◌&&◌, ◌==◌, nat_lt, List, ◌++◌, map, filter, flat_map, count_by, ℤ, pos, ◌-ℤ◌}
 use Rattle.std.specs.List.{range_with_len}
@@ -8,12 +8,13 @@ use Rattle.irv_base.specs.Records.{tally, is_first, is_ahead}
 use Rattle.assertions.specs.declared.assertion.Assertion.{Assertion}
 use Rattle.assertions.specs.declared.assertion.Assertion.TheVariants.{Neb, Nen}
 
--- what the records have for the winner: for NEB its first preferences, for NEN its tally in the set
+-- the votes of the records for the winner: for NEB its first preferences, for NEN its tally in the set
 abbrev pub votes_for : List (List ℕ) → Assertion → ℕ
 votes_for records (Neb w l) = count_by (λ ranking. is_first ranking w) records
 votes_for records (Nen w l rest) = tally records rest w
 
--- what the records have for the loser: for NEB the records that rank it and don't have w ahead of it, for NEN its tally in the set
+-- the votes of the records for the loser: for NEB the records that rank it and don't have w ahead of it, for NEN its tally in the
+-- set
 abbrev pub votes_against : List (List ℕ) → Assertion → ℕ
 votes_against records (Neb w l) = count_by (λ ranking. is_ahead ranking l w) records
 votes_against records (Nen w l rest) = tally records rest l
@@ -29,11 +30,11 @@ is_true records a = nat_lt (votes_against records a) (votes_for records a)
 abbrev pub true_margin : List (List ℕ) → Assertion → ℕ
 true_margin records a = votes_for records a - votes_against records a
 
--- winner and loser are two different candidates below n
+-- the winner and the loser are two different candidates below n
 abbrev pub is_pair : ℕ → ℕ → ℕ → Bool
 is_pair n w l = nat_lt w n && nat_lt l n && not (w == l)
 
--- an assertion is proper with two different candidates below n, and for NEN with a set of candidates below n that has both
+-- an assertion is proper if it has two different candidates below n, and, for NEN, a set of candidates below n that contains both
 abbrev pub is_proper : ℕ → Assertion → Bool
 is_proper n (Neb w l) = is_pair n w l
 is_proper n (Nen w l rest) = is_pair n w l && nat_lt rest (2 ^ n) && has rest w && has rest l
@@ -41,7 +42,7 @@ is_proper n (Nen w l rest) = is_pair n w l && nat_lt rest (2 ^ n) && has rest w 
 abbrev pub pairs : ℕ → List (ℕ × ℕ)
 pairs n = flat_map (λ w. map (λ l. (w, l)) (all_but n w)) (candidates n)
 
--- the sets of candidates below n that have both
+-- the sets of candidates below n that contain both
 abbrev pub sets_with : ℕ → (ℕ × ℕ) → List ℕ
 sets_with n pair = filter (λ rest. has rest pair.0 && has rest pair.1) (range_with_len 0 (2 ^ n))
 

@@ -4,7 +4,7 @@ use Rattle.irv_base.specs.Records.{top, is_some_of, is_first, is_ahead}
 use Rattle.assertions.specs.declared.assertion.Assertion.{Assertion}
 use Rattle.assertions.specs.declared.assertion.Assertion.TheVariants.{Neb, Nen}
 
--- 2 for a ballot that counts for the winner, 0 for one that counts for the loser, 1 for each other
+-- 2 for a ballot that counts for the winner, 0 for one that counts for the loser, and 1 for any other ballot
 abbrev pub assorter_value : Assertion → List ℕ → ℕ
 assorter_value (Neb w l) ranking =
     if is_first ranking w then 2 else (if is_ahead ranking l w then 0 else 1)

@@ -1,4 +1,5 @@
--- The canonical certificate: the assertions that the search prints, their margin, and the order that no true assertion of larger margin refutes.
+-- The canonical certificate: the assertions that the search prints, their margin, and the order that no true assertion with a
+-- larger margin refutes.
 use Rattle.std.specs.Prelude.{◌≡◌, ◌≢◌, ◌↔◌, ◌⊎◌, ℕ, ◌≤◌, Bool, false, ◌&&◌, ◌==◌, nat_le, nat_lt, List, [], ◌∷◌, map, filter, find, count_by, Option, Some, None, Contains, AllPairs, IsTrue}
 use Rattle.std.specs.List.{list_any}
 use Rattle.irv_base.specs.Orders.{Elects}
@@ -10,7 +11,7 @@ use Rattle.assertions.specs.Assertions.{assertions, true_margin}
 use Rattle.assertions.specs.Suffixes.{is_suffix, IsAlternative, alternative_orders, alternative_suffixes, parts_ending, comes_before}
 use Rattle.assertions.specs.Hardness as hardness
 
--- ---- over any low of suffixes, and a margin that is meant to be the best
+-- ---- over any function `low` of suffixes, and a margin that is meant to be the best
 
 -- a suffix that reaches the margin, though its parent, the suffix without its first candidate, doesn't
 abbrev pub is_end : (List ℕ → ℕ) → ℕ → List ℕ → Bool
@@ -22,16 +23,16 @@ is_end low margin (c ∷ d ∷ parent) =
 abbrev pub certificate_ends : ℕ → ℕ → (List ℕ → ℕ) → ℕ → List (List ℕ)
 certificate_ends n winner low margin = filter (is_end low margin) (alternative_suffixes n winner)
 
--- the alternative order of that hardness that is the least when read backwards
+-- the alternative order of that hardness that is the smallest when read backwards
 abbrev pub certificate_order : ℕ → ℕ → (List ℕ → ℕ) → ℕ → Option (List ℕ)
 certificate_order n winner low margin =
     find (λ order. low order == margin) (alternative_orders n winner)
 
--- how many suffixes that end in c, and aren't whole, are below the margin
+-- the number of suffixes that end in c, aren't whole, and are below the margin
 abbrev pub cover_count : ℕ → (List ℕ → ℕ) → ℕ → ℕ → ℕ
 cover_count n low margin c = count_by (λ suffix. nat_lt (low suffix) margin) (parts_ending n c)
 
--- how many suffixes that end in c, and aren't whole, are at most at the margin, and come before the order
+-- the number of suffixes that end in c, aren't whole, are at or below the margin, and come before the order
 abbrev pub order_count : ℕ → (List ℕ → ℕ) → ℕ → List ℕ → ℕ → ℕ
 order_count n low margin order c =
     count_by (λ suffix. nat_le (low suffix) margin && comes_before suffix order) (parts_ending n c)
@@ -64,7 +65,7 @@ abbrev pub certificate_claims : ℕ → List (List ℕ) → ℕ → List Claim
 certificate_claims n records winner =
     map (claim_of records) (certificate_assertions n records winner)
 
--- ---- the rules, as one reads them
+-- ---- the rules, as a reader applies them
 
 -- the ends: suffixes that elect another candidate and reach the margin, though their parents don't
 pub record IsEnd (n : ℕ) (records : List (List ℕ)) (winner margin : ℕ) (suffix : List ℕ)
@@ -73,8 +74,8 @@ pub record IsEnd (n : ℕ) (records : List (List ℕ)) (winner margin : ℕ) (su
   pub alternative : (c : ℕ) × (c ≢ winner) × Elects suffix c
   pub shortest : IsTrue (is_end (hardness.low n records) margin suffix)
 
--- the margin is the least hardness of an alternative order; the order is of that hardness, and the least of these when read backwards;
--- the assertions are the refuters of the ends, each once, in the fixed order
+-- the margin is the smallest hardness of an alternative order; the order has that hardness, and is the smallest of those that do
+-- when read backwards; the assertions are the refuters of the ends, each once, in the fixed order
 pub record IsCertificate (n : ℕ) (records : List (List ℕ)) (winner margin : ℕ) (order : List ℕ)
     (claims : List Assertion) : Type 0 where
   pub least : (other : List ℕ) → IsAlternative n winner other →

@@ -1,4 +1,4 @@
--- The fixed order is a total one, and only an assertion itself is at its place.
+-- The fixed order is total, and only an assertion itself is at its place.
 use Rattle.std.proofs.Common.{ap, refl, sym, ◌∙◌, ◌==◌, ◌&&◌, ◌∷◌, [], ◌≡◌, ℕ}
 use Rattle.std.specs.Cmp.{IsTotalOrder, both_tied, on_total, unsigned_ties}
 use Rattle.std.specs.Cmp.Lexicographic.{nat_list_cmp_total, slice_cmp}

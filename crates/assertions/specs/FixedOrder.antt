@@ -15,7 +15,7 @@ key (Nen w l rest) = 1 ∷ w ∷ l ∷ rest ∷ []
 abbrev pub is_before : Assertion → Assertion → Bool
 is_before a b = stands_before (key a) (key b)
 
--- which of two comes first
+-- which of two assertions comes first
 abbrev pub fixed_order : Assertion → Assertion → Ordering
 fixed_order a b = slice_cmp nat_cmp (key a) (key b)
 
@@ -24,7 +24,7 @@ abbrev pub number_of : Assertion → ℕ
 number_of (Neb w l) = (w * 2 ^ 8 + l) * 2 ^ 32
 number_of (Nen w l rest) = ((2 ^ 8 + w) * 2 ^ 8 + l) * 2 ^ 32 + rest
 
--- its parts are digits of the number
+-- the parts of the assertion are digits of the number
 abbrev pub HasDigits : Assertion → Type 0
 HasDigits (Neb w l) = (w < 2 ^ 8) × (l < 2 ^ 8)
 HasDigits (Nen w l rest) = (w < 2 ^ 8) × (l < 2 ^ 8) × (rest < 2 ^ 32)

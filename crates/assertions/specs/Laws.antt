@@ -1,4 +1,4 @@
--- The laws of the definitions, on which the programs rest.
+-- The laws of the definitions, on which the programs depend.
 use Rattle.std.specs.Prelude.{◌≡◌, ◌≢◌, ◌↔◌, ◌⊎◌, ℕ, ◌+◌, ◌-◌, ◌*◌, ◌<◌, ◌≤◌, nat_lt, nat_le, max, List, [], ◌∷◌, ◌++◌, length, sum_by, Contains, AllPairs, Some, None, IsTrue, IsFalse, pos, ◌-ℤ◌, ◌<ℤ◌}
 use Rattle.std.specs.List.{list_any, list_all}
 use Rattle.std.specs.List.Sorted.{IsPermutation}
@@ -22,7 +22,7 @@ use Rattle.assertions.specs.Assorter.{assorter_value}
 
 -- ==== assertions
 
--- a NEB compares w at its worst, with all left, to l at its best, with w and l alone
+-- a NEB compares w at its worst, with all candidates left, to l at its best, with only w and l left
 abbrev pub NebFor : Type 0
 NebFor =
     (n : ℕ) (records : List (List ℕ)) (w l : ℕ) →
@@ -37,13 +37,13 @@ NebAgainst =
 abbrev pub AssorterIs : Type 0
 AssorterIs = (a : Assertion) (ranking : List ℕ) → assorter_value a ranking ≤ 2
 
--- what the assorter values are above 1 in sum is the margin
+-- the sum of the assorter values, each minus 1, is the margin
 abbrev pub AssorterSums : Type 0
 AssorterSums =
     (n : ℕ) (records : List (List ℕ)) (a : Assertion) → IsTrue (is_proper n a) →
     pos (sum_by (assorter_value a) records) -ℤ pos (length records) ≡ margin records a
 
--- true is what has a margin above 0
+-- an assertion is true exactly if its margin is above 0
 abbrev pub TrueMargin : Type 0
 TrueMargin =
     (records : List (List ℕ)) (a : Assertion) →
@@ -66,13 +66,13 @@ pub record IsStrictTotal (precedes : Assertion → Assertion → Type 0) : Type 
 abbrev pub FixedOrderIsTotal : Type 0
 FixedOrderIsTotal = IsStrictTotal (λ a b. IsTrue (is_before a b))
 
--- the fixed order is the one that `Ord` has
+-- the fixed order is the order of `Ord`
 abbrev pub FixedOrderIsOrd : Type 0
 FixedOrderIsOrd =
     (a b : Assertion) →
     ((ghosts.cmp a b ≡ Less) ↔ IsTrue (is_before a b)) × ((ghosts.cmp a b ≡ Equal) ↔ (a ≡ b))
 
--- the numbers of two compare as the two do, and no two have the same
+-- the numbers of two assertions compare as the assertions do, and no two assertions have the same number
 abbrev pub NumbersRise : Type 0
 NumbersRise =
     (a b : Assertion) → HasDigits a → HasDigits b →
@@ -80,7 +80,7 @@ NumbersRise =
 
 -- ==== refutation
 
--- NEB(w,l) refutes if l is there and w doesn't come after it, NEN(w,l,rest) if w and those after it are the rest
+-- NEB(w,l) refutes a suffix if l is in it and w doesn't come after l; NEN(w,l,rest) does if w and those after it are the rest
 abbrev pub RefutesWhere : Type 0
 RefutesWhere =
     (suffix : List ℕ) (w l rest : ℕ) → IsTrue (is_distinct suffix) →
@@ -91,13 +91,13 @@ RefutesWhere =
     ↔ ((before : List ℕ) × (behind : List ℕ) × (suffix ≡ before ++ w ∷ behind)
     × (set_of (w ∷ behind) ≡ rest)))
 
--- what refutes a suffix refutes each longer one
+-- an assertion that refutes a suffix refutes each longer one
 abbrev pub RefutesLonger : Type 0
 RefutesLonger =
     (a : Assertion) (suffix : List ℕ) (c : ℕ) → IsTrue (refutes a suffix) →
     IsFalse (is_in suffix c) → IsTrue (refutes a (c ∷ suffix))
 
--- a covering set that is true of some records proves their winner, however ties are broken
+-- a covering set that is true of some records proves their winner, no matter how ties are broken
 abbrev pub CoverIsSound : Type 0
 CoverIsSound =
     (n winner : ℕ) (claims : List Assertion) → winner < n → IsTrue (list_all (is_proper n) claims) →
@@ -118,7 +118,7 @@ AlternativeOrders =
     (n winner : ℕ) (order : List ℕ) →
     (Contains (alternative_orders n winner) order ↔ IsAlternative n winner order)
 
--- the alternative orders are listed each once, and read backwards they rise
+-- each alternative order is listed once, and the list is increasing when its orders are read backwards
 abbrev pub AlternativeOrdersRise : Type 0
 AlternativeOrdersRise =
     (n winner : ℕ) →
@@ -130,7 +130,7 @@ SuffixesEnding =
     (Contains (suffixes_ending n k suffix) other
     ↔ (IsTrue (is_suffix n other) × EndsIn other suffix × (length other ≤ k + length suffix)))
 
--- what the cover count and the order count go through: suffixes that end in c and aren't whole
+-- the suffixes that the cover count and the order count go through: those that end in c and aren't whole
 abbrev pub PartsEnding : Type 0
 PartsEnding =
     (n c : ℕ) (suffix : List ℕ) → c < n →
@@ -141,7 +141,7 @@ abbrev pub PartsRise : Type 0
 PartsRise =
     (n c : ℕ) → AllPairs (λ suffix other. IsTrue (comes_before suffix other)) (parts_ending n c)
 
--- the suffixes that end in c and aren't whole are at most this many, and so are those that a count counts
+-- at most this many suffixes end in c and aren't whole, so a count counts at most this many
 abbrev pub PartsAreFew : Type 0
 PartsAreFew = (n c : ℕ) → c < n → length (parts_ending n c) ≤ 2 * factorial (n - 1)
 
@@ -151,7 +151,7 @@ CountsAreFew =
     (cover_count n low margin c ≤ 2 * factorial (n - 1))
     × (order_count n low margin order c ≤ 2 * factorial (n - 1))
 
--- the cover count is the length of a list that has each suffix that ends in c, isn't whole and is below the margin, once
+-- the cover count is the length of a list that has, once each, the suffixes that end in c, aren't whole, and are below the margin
 abbrev pub CoverCountIs : Type 0
 CoverCountIs =
     (n c margin : ℕ) (low : List ℕ → ℕ) (below : List (List ℕ)) → c < n →
@@ -162,7 +162,7 @@ CoverCountIs =
     × (low suffix < margin)))) →
     cover_count n low margin c ≡ length below
 
--- an order that ends in a suffix is it, or ends in one that is longer by one
+-- an order that ends in a suffix is that suffix, or ends in one that is longer by one
 abbrev pub SuffixGrows : Type 0
 SuffixGrows =
     (n : ℕ) (order suffix : List ℕ) → IsTrue (is_order n order) → EndsIn order suffix →
@@ -170,7 +170,8 @@ SuffixGrows =
 
 -- ==== hardness
 
--- each true assertion that refutes a suffix has at most its low as its margin, and one has it if it is above 0
+-- each true assertion that refutes a suffix has a margin of at most the suffix's low, and if the low is above 0, one has exactly
+-- that margin
 abbrev pub LowIsGreatest : Type 0
 LowIsGreatest =
     (n : ℕ) (records : List (List ℕ)) (suffix : List ℕ) →
@@ -185,7 +186,7 @@ LowGrows =
     (n : ℕ) (records : List (List ℕ)) (suffix : List ℕ) (c : ℕ) → IsFalse (is_in suffix c) →
     low n records suffix ≤ low n records (c ∷ suffix)
 
--- how the search computes the low, one more candidate at a time
+-- how the search computes the low, adding one candidate at a time
 abbrev pub LowOfMore : Type 0
 LowOfMore =
     (n : ℕ) (records : List (List ℕ)) (c : ℕ) (suffix : List ℕ) →
@@ -206,7 +207,7 @@ RefuterOrNone =
     (n : ℕ) (records : List (List ℕ)) (suffix : List ℕ) →
     ((refuter n records suffix ≡ None) ↔ (low n records suffix ≡ 0))
 
--- how the search computes the low and the refuter together, one more candidate at a time
+-- how the search computes the low and the refuter together, adding one candidate at a time
 abbrev pub ScoreOfMore : Type 0
 ScoreOfMore =
     (n : ℕ) (records : List (List ℕ)) (c : ℕ) (suffix : List ℕ) →
@@ -225,14 +226,14 @@ NenAgainstImpossible =
     (w l rest : ℕ) × IsTrue (is_proper n (Nen w l rest)) × IsTrue (is_true records (Nen w l rest))
     × IsTrue (refutes (Nen w l rest) order)
 
--- nothing true contradicts a possible order
+-- no true assertion contradicts a possible order
 abbrev pub NothingAgainstPossible : Type 0
 NothingAgainstPossible =
     (n : ℕ) (records : List (List ℕ)) (order : List ℕ) (a : Assertion) →
     IsTrue (is_order n order) → IsTrue (is_possible records order) → IsTrue (is_proper n a) →
     IsTrue (is_true records a) → IsTrue (refutes a order) → ⊥
 
--- so an order is possible exactly if nothing true refutes it
+-- so an order is possible exactly if no true assertion refutes it
 abbrev pub PossibleIffUnrefuted : Type 0
 PossibleIffUnrefuted =
     (n : ℕ) (records : List (List ℕ)) (order : List ℕ) → IsTrue (is_order n order) →
@@ -245,13 +246,13 @@ BestIsLeast =
     (n winner : ℕ) (hardness : List ℕ → ℕ) (order : List ℕ) →
     Contains (alternative_orders n winner) order → best_margin n winner hardness ≤ hardness order
 
--- a contest is decided for a candidate exactly if something true refutes each other order
+-- a contest is decided for a candidate exactly if true assertions refute each order that elects another
 abbrev pub DecidedIsPositive : Type 0
 DecidedIsPositive =
     (n winner : ℕ) (records : List (List ℕ)) → winner < n → 1 < n →
     (AllElect n records winner ↔ (1 ≤ best_margin n winner (low n records)))
 
--- by the winner of the tabulated order
+-- the same, for the winner of the tabulated order
 abbrev pub DecidedExactly : Type 0
 DecidedExactly =
     (n winner : ℕ) (records : List (List ℕ)) (order : List ℕ) → 1 < n → IsTrue (is_order n order) →
@@ -267,20 +268,20 @@ FirstBoundIsZero =
     ((first_bound n records (before ++ a ∷ b ∷ []) ≡ 0)
     ↔ (tally records (set_of (a ∷ b ∷ [])) a ≡ tally records (set_of (a ∷ b ∷ [])) b))
 
--- true assertions that refute each order which elects another candidate
+-- true assertions that refute each order that elects another candidate
 pub record IsProof (n winner : ℕ) (records : List (List ℕ)) (claims : List Assertion)
     : Type 0 where
   pub proper : IsTrue (list_all (is_proper n) claims)
   pub hold : IsTrue (list_all (is_true records) claims)
   pub cover : IsTrue (covers n winner claims)
 
--- there are such exactly if the contest is decided for the candidate
+-- a proof exists exactly if the contest is decided for the candidate
 abbrev pub ProofIffDecided : Type 0
 ProofIffDecided =
     (n winner : ℕ) (records : List (List ℕ)) → winner < n → 1 < n →
     (((claims : List Assertion) × IsProof n winner records claims) ↔ AllElect n records winner)
 
--- a candidate who isn't eliminated before any other has won, however the others tie
+-- a candidate who isn't eliminated before any other has won, no matter how the others tie
 abbrev pub FirstOverAll : Type 0
 FirstOverAll =
     (n winner : ℕ) (records : List (List ℕ)) → winner < n → 1 < n →
@@ -303,7 +304,7 @@ FrontierBounds =
     IsTrue (list_all (λ suffix. nat_le margin (low n records suffix)) frontier) →
     margin ≤ best_margin n winner (low n records)
 
--- no covering set has a greater least margin
+-- no covering set has a greater smallest margin
 abbrev pub NoneBeatsBest : Type 0
 NoneBeatsBest =
     (n winner : ℕ) (records : List (List ℕ)) (claims : List Assertion) → winner < n → 1 < n →
@@ -343,7 +344,7 @@ CertificateHasBest =
     (a : Assertion) × Contains (certificate_assertions n records winner) a
     × (true_margin records a ≡ best_margin n winner (low n records))
 
--- the certificate's order is an alternative order of the best margin, over any hardness
+-- the certificate's order is an alternative order that has the best margin, over any hardness
 abbrev pub CertificateOrder : Type 0
 CertificateOrder =
     (n winner : ℕ) (hardness : List ℕ → ℕ) → winner < n → 1 < n →
@@ -351,7 +352,7 @@ CertificateOrder =
     (order : List ℕ) × (certificate_order n winner hardness best ≡ Some order)
     × Contains (alternative_orders n winner) order × (hardness order ≡ best)
 
--- the certificate's order is the least of these when read backwards
+-- the certificate's order is the smallest of these when read backwards
 abbrev pub CertificateOrderIsFirst : Type 0
 CertificateOrderIsFirst =
     (n winner margin : ℕ) (hardness : List ℕ → ℕ) (found order : List ℕ) →
@@ -383,7 +384,7 @@ EndsAreOne =
     (suffix : List ℕ) × IsEnd n records winner best suffix × EndsIn order suffix
     × ((other : List ℕ) → IsEnd n records winner best other → EndsIn order other → other ≡ suffix)
 
--- the certificate as it is defined meets the rules
+-- the certificate, as it is defined, meets the rules
 abbrev pub CertificateIs : Type 0
 CertificateIs =
     (n winner : ℕ) (records : List (List ℕ)) → winner < n → 1 < n →
@@ -393,7 +394,7 @@ CertificateIs =
     × IsCertificate n records winner (best_margin n winner (low n records)) order
     (certificate_assertions n records winner)
 
--- nothing but the certificate meets the rules
+-- only the certificate meets the rules
 abbrev pub CertificateIsOne : Type 0
 CertificateIsOne =
     (n winner : ℕ) (records : List (List ℕ)) (best best' : ℕ) (order order' : List ℕ)

@@ -1,7 +1,7 @@
 -- Which of two lists of numbers comes first.
 use Rattle.std.specs.Prelude.{ℕ, Bool, true, false, ◌&&◌, ◌||◌, ◌==◌, nat_lt, List, [], ◌∷◌}
 
--- two lists are compared at the first place at which they differ, and a list comes after its proper prefixes
+-- two lists are compared at the first place where they differ, and a list comes after its proper prefixes
 abbrev pub stands_before : List ℕ → List ℕ → Bool
 stands_before [] [] = false
 stands_before [] (y ∷ ys) = true

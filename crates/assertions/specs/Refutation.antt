@@ -11,8 +11,8 @@ abbrev pub part_from : List ℕ → ℕ → List ℕ
 part_from [] c = []
 part_from (d ∷ rest) c = if d == c then d ∷ rest else part_from rest c
 
--- NEB(w,l): l is there, and w isn't after it, but before it or not there. NEN(w,l,rest): w is there, and the candidates from it to the
--- end are exactly the rest.
+-- NEB(w,l): l is in the suffix, and w doesn't come after it: w comes before it or isn't in the suffix. NEN(w,l,rest): w is in the
+-- suffix, and the candidates from w to the end are exactly the rest.
 abbrev pub refutes : Assertion → List ℕ → Bool
 refutes (Neb w l) suffix = is_in suffix l && not (is_in (part_from suffix l) w)
 refutes (Nen w l rest) suffix = is_in suffix w && (set_of (part_from suffix w) == rest)

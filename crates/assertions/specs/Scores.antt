@@ -1,4 +1,4 @@
--- What a suffix has against it, and how that follows from its parent's, as a search computes it.
+-- What a suffix has against it, and how a search computes that from what its parent has against it.
 use Rattle.std.specs.Prelude.{ℕ, Bool, false, not, ◌&&◌, ◌||◌, ◌==◌, nat_lt, if◌then◌else◌, List, ◌∷◌, ◌++◌, map, filter, fold, Option, Some, None}
 use Rattle.irv_base.specs.Candidates.{candidates, is_in, set_of}
 use Rattle.assertions.specs.declared.assertion.Assertion.{Assertion}
@@ -31,7 +31,8 @@ offered score margin a =
 abbrev pub all_offered : List (List ℕ) → Score → List Assertion → Score
 all_offered records score claims = fold (λ s a. offered s (true_margin records a) a) score claims
 
--- what one more candidate in front adds: the NEBs that it loses to those outside, and the NENs that it wins from those after it
+-- the assertions that one more candidate in front adds: the NEBs that it loses to those outside, and the NENs that it wins against
+-- those after it
 abbrev pub nebs_against : ℕ → ℕ → List ℕ → List Assertion
 nebs_against n c suffix = map (λ w. Neb w c) (filter (λ w. not (is_in suffix w)) (candidates n))
 
@@ -41,6 +42,6 @@ nens_for c set behind = map (λ l. Nen c l set) behind
 abbrev pub added_refuters : ℕ → ℕ → List ℕ → List Assertion
 added_refuters n c suffix = nebs_against n c (c ∷ suffix) ++ nens_for c (set_of (c ∷ suffix)) suffix
 
--- the greatest margin of a true one of what one more candidate in front adds, or 0
+-- the greatest margin of a true assertion among those that one more candidate in front adds, or 0
 abbrev pub added : ℕ → List (List ℕ) → ℕ → List ℕ → ℕ
 added n records c suffix = greatest (map (true_margin records) (added_refuters n c suffix))

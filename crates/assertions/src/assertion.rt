@@ -9,7 +9,7 @@ ghost use Rattle.assertions.specs.Compared.{fixed_total, matches_fixed};
 use irv_base::{CandSet, Candidate};
 use std::cmp::Ordering;
 
-/// One of RAIRE's two kinds of assertion, that a winner `w` beats a loser `l`.
+/// One of RAIRE's two kinds of assertion. It says that a winner `w` beats a loser `l`.
 ///
 /// Its variants and fields follow the fixed order: NEB before NEN, then the smaller winner, then the smaller loser, then the smaller
 /// number of the set.
@@ -28,14 +28,14 @@ pub enum Assertion {
     },
 }
 
-// How many values a byte has, and how many four of them have.
+// The number of values that a byte has, and the number that four bytes have.
 const BYTE: u64 = 1 << 8;
 
 const WORD: u64 = 1 << 32;
 
 impl Assertion {
-    /// A number that is smaller for an assertion that comes earlier in the fixed order. With it two are compared at once, and many are
-    /// sorted. No two assertions have the same number.
+    /// A number that is smaller for an assertion that comes earlier in the fixed order. It makes comparing two assertions a single
+    /// step, and is used to sort many. No two assertions have the same number.
     #[inline(always)]
     pub fn number(&self) -> u64
         ensures number { result ≡ number_of self.now }
@@ -80,7 +80,7 @@ impl PartialOrd for Assertion {
 pub struct Claim {
     /// What is asserted.
     pub assertion: Assertion,
-    /// By how many votes it is said to be true.
+    /// The number of votes by which it is said to be true.
     pub margin: u32,
 }
 

@@ -12,7 +12,7 @@ fn is_first(ranking: &Ranking, w: Candidate) -> bool
     ranking.candidates().first() == Some(&w)
 }
 
-/// Whether the ranking has `l`, and doesn't have `w` ahead of it.
+/// Whether the ranking includes `l` and doesn't have `w` ahead of it.
 fn is_ahead(ranking: &Ranking, l: Candidate, w: Candidate) -> bool
     ensures { result ≡ is_ahead ranking.now l w }
 {

@@ -1,4 +1,4 @@
-//! Worked examples: the definitions at small contests, computed by the checker.
+//! Worked examples: the definitions applied to small contests, computed by the checker.
 ghost use Rattle.std.specs.Prelude.{◌≡◌, ◌+◌, ◌*◌, [], ◌∷◌, Some, IsTrue};
 ghost use Rattle.irv_base.specs.Tabulation.{is_tabulated, is_possible};
 ghost use Rattle.assertions.specs.Contests as contests;
@@ -10,7 +10,7 @@ ghost use Rattle.assertions.specs.FixedOrder.{number_of};
 
 use crate::Assertion;
 
-/// Five ballots 0, four 1,2 and three 2,1. The order that the search starts from isn't the certificate's.
+/// Five ballots 0, four 1,2 and three 2,1. The order from which the search starts isn't the certificate's.
 pub fn three_candidates()
     ensures tabulated { IsTrue (is_tabulated contests.three_candidates (2 ∷ 0 ∷ 1 ∷ [])) }
     ensures start { start_order (2 ∷ 0 ∷ 1 ∷ []) ≡ 2 ∷ 1 ∷ 0 ∷ [] }
@@ -51,7 +51,7 @@ pub fn county_contest()
         ∷ [] }
 {}
 
-/// NEB(1,2) and NEN(1,2,{1,2}) at ballots for the winner, for the loser, and for neither.
+/// NEB(1,2) and NEN(1,2,{1,2}) on ballots for the winner, for the loser, and for neither.
 pub fn assorter_values()
     ensures winner_first { assorter_value (Assertion.Neb 1 2) (1 ∷ 2 ∷ []) ≡ 2 }
     ensures winner_later { assorter_value (Assertion.Neb 1 2) (0 ∷ 1 ∷ 2 ∷ []) ≡ 1 }

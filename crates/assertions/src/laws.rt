@@ -1,12 +1,12 @@
-//! The laws of the definitions: each holds of every value that it names, and has no code.
+//! The laws of the definitions. Each law holds for every value that it names, and has no code.
 ghost use Rattle.assertions.specs.Laws.{NebFor, NebAgainst, AssorterIs, AssorterSums, TrueMargin, AssertionsAreProper, AssertionsRise, FixedOrderIsTotal, FixedOrderIsOrd, NumbersRise, RefutesWhere, RefutesLonger, CoverIsSound, OrdersEnding, AlternativeOrders, AlternativeOrdersRise, SuffixesEnding, PartsEnding, PartsRise, PartsAreFew, CountsAreFew, CoverCountIs, SuffixGrows, LowIsGreatest, LowGrows, LowOfMore, LowOfNone, RefuterIsFirst, RefuterOrNone, ScoreOfMore, ScoreOfNone, PossibleIffUnrefuted, NenAgainstImpossible, NothingAgainstPossible, BestIsLeast, DecidedIsPositive, DecidedExactly, FirstBoundIsZero, ProofIffDecided, FirstOverAll, StartIsAlternative, FrontierBounds, NoneBeatsBest, CertificateIsProper, CertificateIsTrue, CertificateCovers, CertificateReachesBest, CertificateHasBest, CertificateOrder, CertificateOrderIsFirst, CertificateRefutes, EndsAreShortest, EndsAreOne, CertificateIs, CertificateIsOne, RecordsInAnyOrder, TwoCandidates};
 
-/// A NEB has for its winner the votes that it has with all candidates left.
+/// The votes that a NEB has for its winner are those that the winner has with all candidates left.
 pub fn neb_for()
     ensures { NebFor }
 {}
 
-/// A NEB has against its winner the votes of the loser with these two alone.
+/// The votes that a NEB has against its winner are those that the loser has with only these two left.
 pub fn neb_against()
     ensures { NebAgainst }
 {}
@@ -16,7 +16,7 @@ pub fn assorter_is()
     ensures { AssorterIs }
 {}
 
-/// The margin is what the assorter values are above 1 each, in sum.
+/// The margin is the sum of the assorter values, each minus 1.
 pub fn assorter_sums()
     ensures { AssorterSums }
 {}
@@ -26,7 +26,7 @@ pub fn true_margin()
     ensures { TrueMargin }
 {}
 
-/// The list of all assertions has exactly the proper ones.
+/// The list of all assertions has exactly the proper assertions.
 pub fn assertions_are_proper()
     ensures { AssertionsAreProper }
 {}
@@ -41,65 +41,65 @@ pub fn fixed_order_is_total()
     ensures { FixedOrderIsTotal }
 {}
 
-/// The fixed order is the order of `Assertion` as `Ord`.
+/// The fixed order is the order of `Assertion` in `Ord`.
 pub fn fixed_order_is_ord()
     ensures { FixedOrderIsOrd }
 {}
 
-/// The numbers of assertions whose parts have their digits compare as `Ord` compares the assertions, and no two have the same.
+/// If the parts of assertions have their digits, the numbers of the assertions compare as `Ord` compares the assertions, and no two
+/// have the same number.
 pub fn numbers_rise()
     ensures { NumbersRise }
 {}
 
-/// NEB refutes exactly if its loser is there and its winner doesn't come after it, NEN exactly if its winner and those after it are the
-/// rest.
+/// NEB refutes a suffix exactly if its loser is in it and its winner doesn't come after the loser. NEN does exactly if its winner
+/// and those after it are the rest.
 pub fn refutes_where()
     ensures { RefutesWhere }
 {}
 
-/// What refutes a suffix refutes each longer one.
+/// An assertion that refutes a suffix refutes each longer one.
 pub fn refutes_longer()
     ensures { RefutesLonger }
 {}
 
-/// Proper assertions that refute each order which elects another candidate prove the winner of any records of which
-/// all of them are true, however ties are broken.
+/// Proper assertions that refute each order that elects another candidate prove the winner of any records of which they are all
+/// true, no matter how ties are broken.
 pub fn cover_is_sound()
     ensures { CoverIsSound }
 {}
 
-/// The orders that end in a suffix are listed, and nothing besides.
+/// The list of the orders that end in a suffix has exactly these orders.
 pub fn orders_ending()
     ensures { OrdersEnding }
 {}
 
-/// The orders that elect another candidate are listed, and nothing besides.
+/// The list of the orders that elect another candidate has exactly these orders.
 pub fn alternative_orders()
     ensures { AlternativeOrders }
 {}
 
-/// The alternative orders are listed each once, and read backwards they rise.
+/// Each alternative order is listed once, and the list is increasing when its orders are read backwards.
 pub fn alternative_orders_rise()
     ensures { AlternativeOrdersRise }
 {}
 
-/// The suffixes that end in a suffix, and are longer by at most `k`, are listed, and nothing besides.
+/// The list of the suffixes that end in a suffix, and are longer by at most `k`, has exactly these suffixes.
 pub fn suffixes_ending()
     ensures { SuffixesEnding }
 {}
 
-/// What the cover count and the order count go through: the suffixes that end in a candidate and are no whole
-/// orders.
+/// The suffixes that the cover count and the order count go through: those that end in a candidate and aren't whole orders.
 pub fn parts_ending()
     ensures { PartsEnding }
 {}
 
-/// The suffixes that the counts go through are listed each once, and read backwards they rise.
+/// Each suffix that the counts go through is listed once, and the list is increasing when its suffixes are read backwards.
 pub fn parts_rise()
     ensures { PartsRise }
 {}
 
-/// The suffixes that the counts go through are at most `2 * (n - 1)!`.
+/// The counts go through at most `2 * (n - 1)!` suffixes.
 pub fn parts_are_few()
     ensures { PartsAreFew }
 {}
@@ -109,13 +109,12 @@ pub fn counts_are_few()
     ensures { CountsAreFew }
 {}
 
-/// The cover count is the number of suffixes that end in the candidate, are no whole orders and have a low below the
-/// margin.
+/// The cover count is the number of suffixes that end in the candidate, aren't whole orders, and have a low below the margin.
 pub fn cover_count_is()
     ensures { CoverCountIs }
 {}
 
-/// An order that ends in a suffix is it, or ends in one that is longer by one.
+/// An order that ends in a suffix is that suffix, or ends in one that is longer by one.
 pub fn suffix_grows()
     ensures { SuffixGrows }
 {}
@@ -130,7 +129,7 @@ pub fn low_grows()
     ensures { LowGrows }
 {}
 
-/// The low of a suffix is that of its parent, or the greatest margin that its first candidate adds.
+/// The low of a suffix is the greater of its parent's low and the greatest margin that its first candidate adds.
 pub fn low_of_more()
     ensures { LowOfMore }
 {}
@@ -140,7 +139,7 @@ pub fn low_of_none()
     ensures { LowOfNone }
 {}
 
-/// The refuter of a suffix is the first true assertion, in the fixed order, that refutes it by its low.
+/// The refuter of a suffix is the first true assertion, in the fixed order, that refutes it and has its low as the margin.
 pub fn refuter_is_first()
     ensures { RefuterIsFirst }
 {}
@@ -150,7 +149,7 @@ pub fn refuter_or_none()
     ensures { RefuterOrNone }
 {}
 
-/// The low and the refuter of a suffix follow from those of its parent and what its first candidate adds.
+/// The low and the refuter of a suffix follow from those of its parent and from what its first candidate adds.
 pub fn score_of_more()
     ensures { ScoreOfMore }
 {}
@@ -160,7 +159,7 @@ pub fn score_of_none()
     ensures { ScoreOfNone }
 {}
 
-/// An order is possible exactly if nothing true refutes it.
+/// An order is possible exactly if no true assertion refutes it.
 pub fn possible_iff_unrefuted()
     ensures { PossibleIffUnrefuted }
 {}
@@ -175,12 +174,12 @@ pub fn nen_against_impossible()
     ensures { NenAgainstImpossible }
 {}
 
-/// Nothing true contradicts a possible order.
+/// No true assertion contradicts a possible order.
 pub fn nothing_against_possible()
     ensures { NothingAgainstPossible }
 {}
 
-/// All possible orders elect a candidate exactly if the least hardness of the others is at least 1.
+/// All possible orders elect a candidate exactly if the smallest hardness of the other orders is at least 1.
 pub fn decided_is_positive()
     ensures { DecidedIsPositive }
 {}
@@ -190,12 +189,12 @@ pub fn decided_exactly()
     ensures { DecidedExactly }
 {}
 
-/// The bound that a search starts from is 0 exactly if the last two candidates tie.
+/// The bound from which a search starts is 0 exactly if the last two candidates tie.
 pub fn first_bound_is_zero()
     ensures { FirstBoundIsZero }
 {}
 
-/// True claims that cover exist exactly if all possible orders elect the candidate.
+/// True claims that cover all alternative orders exist exactly if all possible orders elect the candidate.
 pub fn proof_iff_decided()
     ensures { ProofIffDecided }
 {}
@@ -205,7 +204,7 @@ pub fn first_over_all()
     ensures { FirstOverAll }
 {}
 
-/// The order that the search starts from elects another candidate than the winner.
+/// The order from which the search starts elects a candidate other than the winner.
 pub fn start_is_alternative()
     ensures { StartIsAlternative }
 {}
@@ -215,7 +214,7 @@ pub fn frontier_bounds()
     ensures { FrontierBounds }
 {}
 
-/// No set of proper assertions that refutes all alternative orders has a greater least margin.
+/// No set of proper assertions that refutes all alternative orders has a greater smallest margin.
 pub fn none_beats_best()
     ensures { NoneBeatsBest }
 {}
@@ -240,23 +239,23 @@ pub fn certificate_reaches_best()
     ensures { CertificateReachesBest }
 {}
 
-/// If the best margin is above 0, one of the certificate's assertions has exactly that.
+/// If the best margin is above 0, one of the certificate's assertions has exactly that margin.
 pub fn certificate_has_best()
     ensures { CertificateHasBest }
 {}
 
-/// The certificate's order is an alternative one of the best margin.
+/// The certificate's order is an alternative order that has the best margin.
 pub fn certificate_order()
     ensures { CertificateOrder }
 {}
 
-/// The certificate's order is, read backwards, the least of the alternative orders of the best margin.
+/// The certificate's order is the smallest, read backwards, of the alternative orders that have the best margin.
 pub fn certificate_order_is_first()
     ensures { CertificateOrderIsFirst }
 {}
 
-/// If the best margin is above 0, one of the certificate's assertions refutes a suffix that ends in another candidate than the winner
-/// exactly if its low reaches that.
+/// If the best margin is above 0, one of the certificate's assertions refutes a suffix that ends in a candidate other than the
+/// winner exactly if the suffix's low reaches that margin.
 pub fn certificate_refutes()
     ensures { CertificateRefutes }
 {}
@@ -271,12 +270,12 @@ pub fn ends_are_one()
     ensures { EndsAreOne }
 {}
 
-/// What is defined as the certificate meets its rules.
+/// The certificate, as it is defined, meets its rules.
 pub fn certificate_is()
     ensures { CertificateIs }
 {}
 
-/// Nothing but the certificate meets its rules: the records determine the margin, the order and the assertions.
+/// Only the certificate meets its rules: the records determine the margin, the order and the assertions.
 pub fn certificate_is_one()
     ensures { CertificateIsOne }
 {}
@@ -286,7 +285,7 @@ pub fn records_in_any_order()
     ensures { RecordsInAnyOrder }
 {}
 
-/// The certificate of two candidates is NEB, whose margin is the lead of the winner.
+/// The certificate for two candidates is NEB, and its margin is the lead of the winner.
 pub fn two_candidates()
     ensures { TwoCandidates }
 {}

@@ -33,8 +33,8 @@ fn nen_margin(row: &[u32], w: Candidate, l: Candidate) -> i64
     lead(row[w.index()], row[l.index()])
 }
 
-/// The margin of a proper assertion over the records of the tallies, in votes: what the records have for its winner, less what they have
-/// for its loser, so it is below 0 if the loser has more (RAIRE, section 3).
+/// The margin of a proper assertion over the records of the tallies, in votes: the votes that the records have for its winner,
+/// minus the votes that they have for its loser. It is below 0 if the loser has more (RAIRE, section 3).
 pub fn margin(a: &Assertion, t: &mut Tallies<'_>) -> Result<i64, Memory>
     requires { IsTrue (is_proper t.old.bag.n a.now) }
     ensures margin { (records : List (List ℕ)) → IsOf t.old.bag records

@@ -31,8 +31,8 @@ fn set_of(suffix: &[Candidate]) -> CandSet
 
 /// Whether the assertion refutes each elimination order that ends in the suffix `t`, first eliminated first.
 ///
-/// NEB refutes a suffix that holds `l` and in which `w` comes before `l` or isn't there. NEN refutes a suffix that holds `w` and whose
-/// candidates from `w` to the end are exactly `rest`.
+/// NEB refutes a suffix that includes `l` and in which `w` comes before `l` or doesn't appear. NEN refutes a suffix that includes
+/// `w` and whose candidates from `w` to the end are exactly `rest`.
 pub fn refutes(a: &Assertion, t: &[Candidate]) -> bool
     requires { IsTrue (is_distinct t.now) }
     ensures { result ≡ refutes a.now t.now }

@@ -1,4 +1,4 @@
--- A plan comes to one end.
+-- A plan has one end.
 use Rattle.std.proofs.Common.{ℕ, Bool, true, false, if◌then◌else◌, nat_le, length, refl, sym, ap, subst, ◌∙◌}
 use Rattle.assertion_file.specs.Content.{Content}
 use Rattle.assertion_file.specs.Reading.{assertion_file_of}

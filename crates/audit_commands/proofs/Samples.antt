@@ -1,4 +1,4 @@
--- A sample comes to one end.
+-- A sample has one end.
 use Rattle.std.proofs.Common.{refl, sym, ap, ◌∙◌}
 use Rattle.manifest.specs.Manifest.{manifest_of}
 use Rattle.cli_base.specs.Outcome.{outcome}

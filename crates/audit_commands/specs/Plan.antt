@@ -1,4 +1,4 @@
--- `plan MANIFEST ASSERTIONS`: how many draws a clean audit takes.
+-- `plan MANIFEST ASSERTIONS`: the number of draws that a clean audit needs.
 use Rattle.std.specs.Prelude.{ℕ, nat_le, if◌then◌else◌, List, [], ◌∷◌, length, codes}
 use Rattle.assertion_file.specs.Content.{Content}
 use Rattle.assertion_file.specs.Reading.{assertion_file_of}
@@ -24,7 +24,7 @@ plan_over task cards file =
     then Answered Done (plan_table file cards task.gamma task.limit)
     else more_records task.assertions
 
--- once the manifest is read, which has this many cards
+-- the script once the manifest, which has this many cards, has been read
 abbrev pub after_manifest : PlanTask → ℕ → Script
 after_manifest task cards = Read task.assertions (λ bytes.
     go_on (told (refused_assertions task.assertions) (assertion_file_of bytes)) (λ file.

@@ -1,4 +1,4 @@
-// `plan MANIFEST ASSERTIONS`: how many draws a clean audit takes.
+// `plan MANIFEST ASSERTIONS`: the number of draws that a clean audit needs.
 ghost use Rattle.std.specs.Prelude.{◌≡◌, ◌≤◌};
 ghost use Rattle.desk.specs.Count.{Rose};
 ghost use Rattle.irv_base.specs.declared.limits.TheConstants.{MOST_CARDS};
@@ -18,7 +18,7 @@ use desk::Desk;
 use input_files::{assertions_in, bytes_of, manifest_in};
 use std::alloc::Global;
 
-/// The draws that a clean audit of the assertions takes.
+/// The draws that a clean audit of the assertions needs.
 pub fn answer<D: Desk>(alloc: Global, desk: &mut D, task: &PlanTask) -> Result<Answer, Refusal>
     requires { IsWithinLimits task.now }
     ensures held { D.held desk.new ≡ D.held desk.old }
@@ -34,7 +34,7 @@ pub fn answer<D: Desk>(alloc: Global, desk: &mut D, task: &PlanTask) -> Result<A
     after_manifest(alloc, desk, task, batches.cards())
 }
 
-// The assertions are read, for a plan over this many cards.
+// Reads the assertions, for a plan over this many cards.
 fn after_manifest<D: Desk>(
     alloc: Global,
     desk: &mut D,

@@ -31,7 +31,7 @@ pub fn answer<D: Desk>(alloc: Global, desk: &mut D, task: &SampleTask) -> Result
     sample_of(alloc, task, &batches)
 }
 
-// The answer to the batches of a manifest.
+// The answer for the batches of a manifest.
 fn sample_of(alloc: Global, task: &SampleTask, manifest: &Manifest) -> Result<Answer, Refusal>
     ensures { IsOneOrMemory (λ verdict. verdict ≡ sample_of task.now manifest.now) (due result) }
 {

@@ -23,7 +23,7 @@ module _ (budget : Budget) (cards gamma : ℕ) (ballots : BallotFile) (file : Co
   held : Holds ballots file
   held = (accepted_iff_holds budget ballots file Accepted sound rival.accepted).0 refl
 
-  -- one of the others has no larger margin than any claim
+  -- one of the other assertions has a margin no larger than that of any claim
   pub weakest : (a : Assertion) × Contains others a × All (λ claim. true_margin ballots.rankings a ≤ claim.margin) file.claims
   weakest =
       let (a, among, most) = none_beats_best (candidate_count file) file.winner ballots.rankings others sound.winner (omega (arith, sound.fewest))

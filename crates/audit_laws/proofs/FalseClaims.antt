@@ -1,4 +1,4 @@
--- In a wrong election some claim isn't true of the actual rankings, and the audit confirms that on few sequences.
+-- In a wrong election some claim isn't true of the actual rankings, and the audit confirms that claim on few sequences.
 use Rattle.std.proofs.Common.{◌≡◌, ℕ, ◌≤◌, Bool, true, false, ◌&&◌, inl, inr, List, [], ◌∷◌, length, sum_by, Contains, refl, sym, subst, ◌∙◌, arith}
 use Rattle.std.specs.List.{list_all}
 use Rattle.std.proofs.lemmas.Bool.{cases_Bool, ltb-false, true≢false}
@@ -41,7 +41,7 @@ module _ (n winner cards : ℕ) (assertions : List Assertion) (actual : List (Li
         absurd (wrong.differs ((same_from_push before' before wrong.other winner (sym ends' ∙ ends)).1))
   ]
 
-  -- it has values of at most one in the mean
+  -- the mean of its values is at most one
   pub some-untrue : (a : Assertion) × Member a assertions × (sum_by (assorter_value a) actual ≤ length actual)
   some-untrue =
       let (a, among, fails) = some_fails (is_true actual) assertions not_all in

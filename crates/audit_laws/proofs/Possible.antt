@@ -1,4 +1,4 @@
--- Some order is possible, whatever the records: the tabulated one.
+-- Whatever the records are, some order is possible, namely the tabulated one.
 use Rattle.irv_base.proofs.Tabulated.{tabulated_exists, tabulated-possible}
 use Rattle.audit_laws.specs.Laws.{EachElectsAnother}
 

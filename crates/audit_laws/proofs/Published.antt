@@ -1,4 +1,4 @@
--- The claims of a file that holds are fit for an audit, and so the risk limit holds of it.
+-- The claims of a file that holds are fit for an audit, and so the risk limit holds for the file.
 use Rattle.std.proofs.Common.{◌≡◌, ◌≤◌, true, get_or, pos, refl, sym, subst, ◌∙◌}
 use Rattle.std.proofs.lemmas.List.{length-map}
 use Rattle.std.proofs.lemmas.List.Elements.{All-contains, All-map}

@@ -1,4 +1,4 @@
--- The fewest clean draws: draws of cards that are all seen as recorded.
+-- The smallest number of clean draws, which are draws of cards that are all seen as recorded.
 use Rattle.std.specs.Prelude.{ℕ, ◌*◌, ◌≤◌, List, length, All, Contains, IfSome, IsSome, IsSomeAnd, Ok, IsTrue}
 use Rattle.std.specs.List.{list_all}
 use Rattle.budget.specs.declared.budget.Budget.{Budget}
@@ -21,7 +21,8 @@ pub record ProveWinner (n winner : ℕ) (records : List (List ℕ))
   pub hold : IsTrue (list_all (is_true records) assertions)
   pub covering : IsTrue (covers n winner assertions)
 
--- ballots of at most this number of cards, a file with an order that the check accepts, gamma above 0, and another set that proves its winner
+-- ballots of at most this number of cards, a file with an order that the check accepts, a gamma above 0, and another set that proves the
+-- winner of the file
 pub record IsRival (budget : Budget) (cards gamma : ℕ) (ballots : BallotFile) (file : Content)
     (others : List Assertion) : Type 0 where
   pub file_sound : IsSound file
@@ -35,7 +36,7 @@ pub record IsRival (budget : Budget) (cards gamma : ℕ) (ballots : BallotFile) 
 abbrev pub AreEnough : ℕ → ℕ → ℕ → ℕ → ℕ → Type 0
 AreEnough cards gamma limit k margin = printed_risk cards margin gamma (clean k) ≤ limit * MILLIONTH
 
--- clean draws that are enough for each assertion of the other set are enough for each of the file
+-- clean draws that are enough for each assertion of the other set are enough for each assertion of the file
 abbrev pub FewestCleanDraws : Type 0
 FewestCleanDraws =
     (budget : Budget) (cards gamma limit k : ℕ) (ballots : BallotFile) (file : Content)
@@ -44,8 +45,8 @@ FewestCleanDraws =
     All (λ a. AreEnough cards gamma limit k (true_margin ballots.rankings a)) others →
     All (λ claim. AreEnough cards gamma limit k claim.margin) file.claims
 
--- as clean draws are printed, with none if no number up to the cards and the most draws is enough: some assertion of the other set needs
--- at least as many as any of the file
+-- some assertion of the other set needs at least as many clean draws as any assertion of the file; the number is the printed one, which is
+-- none if no number up to the number of cards and the maximum number of draws is enough
 abbrev pub NeedsNoMore : Type 0
 NeedsNoMore =
     (budget : Budget) (cards gamma limit : ℕ) (ballots : BallotFile) (file : Content)

@@ -38,6 +38,6 @@ two_actual = (0 ∷ []) ∷ (1 ∷ []) ∷ []
 abbrev pub two_seen : List Seen
 two_seen = Found (0 ∷ []) ∷ Found (1 ∷ []) ∷ []
 
--- NEN(0,1) with both left, which proves the winner too
+-- NEN(0,1) with both candidates left, which also proves the winner
 abbrev pub other_proof : List Assertion
 other_proof = Nen 0 1 3 ∷ []

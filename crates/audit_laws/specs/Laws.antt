@@ -25,7 +25,7 @@ use Rattle.audit_laws.specs.RiskLimit.{MayElectAnother}
 
 -- ---- the risk limit by claims
 
--- three files that were read and fit together: each ballot has a card, and the assertion file holds of the ballots
+-- three files that were read and fit together: each ballot has a card, and the assertion file holds for the ballots
 pub record FitTogether (batches : Batches) (ballots : BallotFile)
     (file : FileContent) : Type 0 where
   pub manifest_sound : AreBatches batches.ids batches.counts
@@ -34,13 +34,14 @@ pub record FitTogether (batches : Batches) (ballots : BallotFile)
   pub linked : first_without_card batches ballots ≡ None
   pub holds : Holds ballots file
 
--- the claims of such files are fit for an audit of the linked records
+-- the claims of files like these are fit for an audit of the linked records
 abbrev pub HeldIsAuditable : Type 0
 HeldIsAuditable =
     (batches : Batches) (ballots : BallotFile) (file : FileContent) →
     FitTogether batches ballots file → AreAuditable file (linked_of batches ballots)
 
--- if the actual rankings may elect another candidate, an assertion of each cover isn't true of them: its values have a mean of at most 1
+-- if the actual rankings may elect another candidate, each cover has an assertion that isn't true of them: the mean of its values is at
+-- most 1
 abbrev pub SomeIsUntrue : Type 0
 SomeIsUntrue =
     (n winner cards : ℕ) (assertions : List Assertion) (actual : List (List ℕ)) →
@@ -57,7 +58,7 @@ ClaimsRiskLimit =
     AreSignedOff limit gamma (audited file) recorded actual draws signed →
     length signed * millionths_in_one ≤ limit * length recorded ^ draws
 
--- the risk limit as a count of the listed sequences, if what is read of the cards is fixed before anything is drawn
+-- the risk limit as a count of the listed sequences, if what is read from the cards is fixed before anything is drawn
 abbrev pub CountedRiskLimit : Type 0
 CountedRiskLimit =
     (limit gamma draws : ℕ) (file : FileContent) (recorded : List Recorded)
@@ -69,7 +70,7 @@ CountedRiskLimit =
     (sequences (range_with_len 1 (length recorded)) draws) * millionths_in_one
     ≤ limit * length recorded ^ draws
 
--- the risk limit holds of files that fit together, by whichever check that is known
+-- the risk limit holds for files that fit together, no matter which check showed that they do
 abbrev pub HeldRiskLimit : Type 0
 HeldRiskLimit =
     (limit gamma n : ℕ) (batches : Batches) (ballots : BallotFile) (file : FileContent)
@@ -81,14 +82,14 @@ HeldRiskLimit =
 
 -- ---- the wrong winner
 
--- in the plain case the tabulated order of the actual rankings elects another candidate
+-- the plain case: the tabulated order of the actual rankings elects another candidate
 abbrev pub OtherWinnerIsWrong : Type 0
 OtherWinnerIsWrong =
     (n winner other cards : ℕ) (actual : List (List ℕ)) → length actual ≡ cards →
     IsWinner n actual other → other ≢ winner →
     MayElectAnother n winner cards actual
 
--- if each possible order of the actual rankings elects another candidate, one does: there is always a possible order
+-- if each possible order of the actual rankings elects another candidate, then one does, because there is always a possible order
 abbrev pub EachElectsAnother : Type 0
 EachElectsAnother =
     (n winner cards : ℕ) (actual : List (List ℕ)) → length actual ≡ cards →

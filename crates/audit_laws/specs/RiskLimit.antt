@@ -6,13 +6,13 @@
 -- signed off. Suppose that the cards don't elect the winner of the file, or that a tie among them could be broken so that they don't.
 -- Then the audit can be signed off, at any draw, on few of all sequences of n cards.
 --
--- Files, limit and gamma are given first, and the sequences are counted after: so in an audit they are fixed and published before the
--- seed is known. Two choices of gamma together sign off more sequences than either alone. Take two cards that are recorded for one
--- candidate and are in truth a tie, a limit of 250,600 millionths and seven draws: one gamma signs off 32 of 128 sequences, another 12,
--- and one or the other 34, but the limit allows 32. There is one seed: an audit that begins again with another seed is the same audit's
--- second try. The ends of the rounds may be left open.
+-- The files, the limit and gamma are given first, and the sequences are counted afterwards. So in an audit they are fixed and published
+-- before the seed is known. Two choices of gamma together sign off more sequences than either alone. Take two cards that are recorded for
+-- one candidate and are in truth a tie, a limit of 250,600 millionths, and seven draws. One gamma signs off 32 of 128 sequences, another
+-- signs off 12, and at least one of the two signs off 34, but the limit allows 32. There is only one seed: an audit that begins again with
+-- another seed is the same audit's second try. The ends of the rounds may be left open.
 --
--- It is a count, and says nothing about chance: that every sequence is drawn as easily as every other is up to the seed.
+-- The promise is a count, and says nothing about chance. It is up to the seed to make every sequence as easy to draw as every other.
 use Rattle.std.specs.Prelude.{◌≢◌, ◌≡◌, ℕ, ◌*◌, ◌^◌, ◌≤◌, List, length, None, Ok, IsTrue}
 use Rattle.budget.specs.declared.budget.Budget.{Budget}
 use Rattle.irv_base.specs.Orders.{is_order, Elects}
@@ -29,10 +29,10 @@ use Rattle.session_state.specs.RiskOfValues.{AreTerms, AreSignedOff}
 
 -- ---- what is given
 
--- three files, of which the calls of the suite answered that they are fit
+-- three files that the calls of the suite found to be fit
 pub record ArePublished (budget : Budget) (batches : Batches) (ballots : BallotFile)
     (file : Content) : Type 0 where
-  -- what the readers keep of a manifest, of ballots and of an assertion file
+  -- what the readers guarantee about a manifest, about ballots and about an assertion file
   pub manifest_sound : AreBatches batches.ids batches.counts
   pub ballots_sound : AreSound ballots
   pub file_sound : IsSound file
@@ -53,7 +53,7 @@ pub record MayElectAnother (n winner cards : ℕ) (actual : List (List ℕ)) : T
 
 -- ---- what is promised
 
--- of all cards ^ n sequences, at most limit millionths are such that a session of the file's claims may be signed off on them
+-- on at most limit millionths of all cards ^ n sequences, a session of the file's claims may be signed off
 abbrev pub RiskLimit : Type 0
 RiskLimit =
     (budget : Budget) (limit gamma n : ℕ) (batches : Batches) (ballots : BallotFile) (file : Content)

@@ -1,4 +1,4 @@
-//! Worked examples: a wrong winner that meets all that the risk limit asks, and a second set of assertions for the winner of a file.
+//! Worked examples: a wrong winner that meets every premise of the risk limit, and a second set of assertions for the winner of a file.
 ghost use Rattle.std.specs.Prelude.{◌≡◌, ◌<◌, ◌*◌, [], ◌∷◌, count_by, None, Some};
 ghost use Rattle.std.specs.List.{range_with_len};
 ghost use Rattle.budget.specs.declared.budget.Budget.TheVariants.{Nodes};
@@ -15,8 +15,8 @@ ghost use Rattle.audit_laws.specs.CleanDraws.{AreEnough, IsRival};
 ghost use Rattle.audit_laws.specs.RiskLimit.{ArePublished, MayElectAnother};
 ghost use Rattle.audit_laws.specs.Examples as examples;
 
-/// Two cards are recorded for candidate 0, and in truth there is a tie. At a limit of 0.7 a draw of the first card is
-/// enough, and a draw of the second isn't: of the two sequences of one card, one is signed off, and 1 of 2 is at most 0.7.
+/// Two cards are recorded for candidate 0, but in truth there is a tie. At a limit of 0.7 a draw of the first card is
+/// enough, and a draw of the second isn't. So one of the two sequences of one card is signed off, and 1 of 2 is at most 0.7.
 pub fn wrong_winner()
     ensures published { ArePublished (Nodes 10)
         examples.two_batches examples.two_ballots examples.two_file }
@@ -29,8 +29,8 @@ pub fn wrong_winner()
         examples.two_records examples.two_seen) (sequences (range_with_len 1 2) 1) ≡ 1 }
 {}
 
-/// Two assertions of margin 2 that each prove the winner: two clean draws are enough for both at a limit of 0.5. With a
-/// margin of 1 none up to the two cards would be; with more draws than cards, five would.
+/// Each of two assertions with margin 2 proves the winner. At a limit of 0.5, two clean draws are enough for both. With a
+/// margin of 1, no number of draws up to the two cards would be enough; with more draws than cards, five would be.
 pub fn another_proof()
     ensures rival { IsRival (Nodes 10) 2 500 examples.two_ballots examples.two_file
         examples.other_proof }

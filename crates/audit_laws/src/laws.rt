@@ -4,13 +4,13 @@ ghost use Rattle.audit_laws.specs.Laws.{ClaimsRiskLimit, CountedRiskLimit, EachE
 ghost use Rattle.audit_laws.specs.Laws.{HeldIsAuditable, HeldRiskLimit, OtherWinnerIsWrong, SomeIsUntrue};
 ghost use Rattle.audit_laws.specs.RiskLimit.{RiskLimit};
 
-/// If the actual rankings of the cards may elect another candidate than the published file says, the audit can be signed off on at most
-/// `limit` millionths of all sequences of `n` cards.
+/// If the actual rankings of the cards may elect a candidate other than the one the published file says, the audit can be signed off on at
+/// most `limit` millionths of all sequences of `n` cards.
 pub fn risk_limit()
     ensures { RiskLimit }
 {}
 
-/// The risk limit of a file that holds, by whichever check that is known.
+/// The risk limit of a file that holds, no matter which check showed that it does.
 pub fn held_risk_limit()
     ensures { HeldRiskLimit }
 {}
@@ -20,12 +20,12 @@ pub fn held_is_auditable()
     ensures { HeldIsAuditable }
 {}
 
-/// If the actual rankings may elect another candidate, some assertion of each cover isn't true of them.
+/// If the actual rankings may elect another candidate, each cover has an assertion that isn't true of them.
 pub fn some_is_untrue()
     ensures { SomeIsUntrue }
 {}
 
-/// The risk limit of such claims, however they were made.
+/// The risk limit of claims like these, however they were made.
 pub fn claims_risk_limit()
     ensures { ClaimsRiskLimit }
 {}
@@ -40,18 +40,18 @@ pub fn other_winner_is_wrong()
     ensures { OtherWinnerIsWrong }
 {}
 
-/// So are actual rankings each of whose possible orders elects another candidate: there is always a possible order.
+/// So are actual rankings if every possible order of them elects another candidate, because there is always a possible order.
 pub fn each_elects_another()
     ensures { EachElectsAnother }
 {}
 
-/// Clean draws that are enough for some true set of assertions which proves the winner are enough for the accepted file, if it has an
-/// order.
+/// If a number of clean draws is enough for some true set of assertions that proves the winner, it is enough for the accepted file, provided
+/// that the file has an order.
 pub fn fewest_clean_draws()
     ensures { FewestCleanDraws }
 {}
 
-/// Some assertion of such a set needs at least as many clean draws as any of the accepted file.
+/// Some assertion of a set like this needs at least as many clean draws as any assertion of the accepted file.
 pub fn needs_no_more()
     ensures { NeedsNoMore }
 {}

@@ -20,7 +20,7 @@ all_members P xs each k d within =
 
 -- ---- the greatest
 
--- a need is no more than another one; a full count is more than any
+-- a need is at most another need; a full count is more than any number of draws
 abbrev IsWithin : Option ℕ → Option ℕ → Type 0
 IsWithin need other = IfSome other (λ n. IsSomeAnd need (λ k. k ≤ n))
 

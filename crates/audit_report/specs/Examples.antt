@@ -8,11 +8,11 @@ use Rattle.session_state.specs.Content.{Content}
 use Rattle.session_state.specs.Sessions.{Round}
 use Rattle.km_risk.specs.Counts.{clean}
 
--- A before B, by this margin
+-- the claim that A is before B, by this margin
 abbrev pub claim_of : ℕ → Claim
 claim_of margin = record { assertion = Neb 0 1; margin = margin }
 
--- for candidates A and B, with such a claim for each of these margins
+-- a file for candidates A and B, with a claim like this for each of these margins
 abbrev pub file_of : List ℕ → FileContent
 file_of margins = record (files.led_by 1 12) {
   candidates = codes "A" ∷ codes "B" ∷ [];

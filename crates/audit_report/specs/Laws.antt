@@ -4,14 +4,14 @@ use Rattle.assertions.specs.declared.assertion.Claim.{Claim}
 use Rattle.assertion_file.specs.Content.{Content}
 use Rattle.audit_report.specs.Plan.{all_need, need_of}
 
--- All together need a full count only if one does; otherwise the greatest number of draws that one needs.
+-- All claims together need a full count only if one of them does. Otherwise they need the greatest number of draws that one of them needs.
 abbrev pub AllNeedLaw : Type 0
 AllNeedLaw =
     (needs : List (Option ℕ)) →
     MatchOption (all_need needs) (Contains needs None) (λ most.
     All (λ need. IsSomeAnd need (λ n. n ≤ most)) needs × ((most ≡ 0) ⊎ Contains needs (Some most)))
 
--- All claims need what the one with the least margin needs.
+-- All claims together need what the claim with the smallest margin needs.
 abbrev pub ClosestClaimLaw : Type 0
 ClosestClaimLaw =
     (file : Content) (cards gamma limit : ℕ) (closest : Claim) → 1 ≤ cards → 1 ≤ gamma →

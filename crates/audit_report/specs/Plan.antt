@@ -1,4 +1,4 @@
--- How many draws a clean audit takes, a line a claim, and for all of them.
+-- The number of draws that a clean audit takes, with one line for each claim and one for all claims together.
 use Rattle.std.specs.Prelude.{ℕ, max, List, ◌++◌, map, flat_map, fold, Option, Some, None, codes}
 use Rattle.std.specs.Fmt.{decimal}
 use Rattle.irv_base.specs.Names.{Id}
@@ -12,13 +12,13 @@ abbrev pub need_text : Option ℕ → List ℕ
 need_text None = codes "full count"
 need_text (Some draws) = decimal draws ++ codes " draws"
 
--- what both need
+-- what both claims need together
 abbrev pub both_need : Option ℕ → Option ℕ → Option ℕ
 both_need None other = None
 both_need (Some draws) None = None
 both_need (Some draws) (Some more) = Some (max draws more)
 
--- what all need: the greatest number of draws, none for no claim, and a full count if one has it
+-- what all claims need: the greatest number of draws, no draws if there are no claims, and a full count if one claim needs it
 abbrev pub all_need : List (Option ℕ) → Option ℕ
 all_need needs = fold both_need (Some 0) needs
 
@@ -32,7 +32,7 @@ claim_line ids claim need =
 abbrev pub last_line : Option ℕ → List ℕ
 last_line need = codes "all: " ++ need_text need ++ codes "\n"
 
--- over a manifest of this many cards; gamma is in thousandths, the limit in millionths
+-- the manifest has this many cards; gamma is in thousandths, and the limit is in millionths
 module _ (file : Content) (cards gamma limit : ℕ) where
   -- the draws without a discrepancy that confirm the claim
   abbrev pub need_of : Claim → Option ℕ

@@ -1,4 +1,4 @@
--- What a seed draws from a manifest, a line a draw.
+-- What a seed draws from a manifest, one line for each draw.
 use Rattle.std.specs.Prelude.{ℕ, ◌-◌, List, [], ◌++◌, map, length, flat_map, slice_index_or, codes}
 use Rattle.std.specs.Fmt.{decimal}
 use Rattle.std.specs.List.{range_with_len}
@@ -6,7 +6,7 @@ use Rattle.irv_base.specs.Names.{Id}
 use Rattle.manifest.specs.Cards.{Batches, card_id, cards_of}
 use Rattle.sampler.specs.Draws.{drawn_card}
 
--- the number of a draw, the number of the card that it takes, and that card's id
+-- the number of a draw, the number of the card that is drawn, and that card's id
 abbrev pub draw_line : ℕ → ℕ → Id → List ℕ
 draw_line k card id = decimal k ++ codes "," ++ decimal card ++ codes "," ++ id ++ codes "\n"
 
@@ -14,12 +14,12 @@ draw_line k card id = decimal k ++ codes "," ++ decimal card ++ codes "," ++ id 
 abbrev pub id_of_card : Batches → ℕ → Id
 id_of_card batches card = slice_index_or (map card_id (cards_of batches)) (card - 1) []
 
--- draw number k, counted from 1
+-- the line of draw number k, counted from 1
 abbrev pub line_of_draw : Batches → List ℕ → ℕ → List ℕ
 line_of_draw batches seed k =
     let card = drawn_card seed k (length (cards_of batches)) in
     draw_line k card (id_of_card batches card)
 
--- this many draws
+-- the lines of this many draws
 abbrev pub sample_table : Batches → List ℕ → ℕ → List ℕ
 sample_table batches seed draws = flat_map (line_of_draw batches seed) (range_with_len 1 draws)

@@ -1,4 +1,4 @@
--- What is printed of a session: its values, and its rounds with the counts and the risk of each claim.
+-- What is printed for a session: its values, and its rounds with the counts and the risk of each claim.
 use Rattle.std.specs.Prelude.{ℕ, ◌+◌, Bool, List, [], ◌∷◌, ◌++◌, length, flat_map, slice_index, slice_index_or, codes}
 use Rattle.std.specs.Fmt.{decimal}
 use Rattle.std.specs.List.{range_with_len}
@@ -11,14 +11,14 @@ use Rattle.session_state.specs.Sessions.{Round, Session, is_confirmed_at, is_sig
 
 -- ---- a claim
 
--- claim number j, from 1
+-- the line of claim number j, counted from 1
 abbrev pub claim_line : ℕ → ℕ → Counts → ℕ → Bool → List ℕ
 claim_line j margin counts risk confirmed =
     codes "assertion " ++ decimal j ++ codes " margin " ++ decimal margin
     ++ codes " counts " ++ counts_text counts ++ codes " risk " ++ risk_text risk
     ++ state_end confirmed
 
--- the claim with this index, from 0, in a round
+-- the line of the claim with this index, counted from 0, in a round
 abbrev pub claim_in : List ℕ → Round → (ℕ → Bool) → ℕ → List ℕ
 claim_in margins round is_confirmed claim =
     claim_line (claim + 1) (slice_index margins claim) (slice_index_or round.counts claim (clean 0))
@@ -26,7 +26,7 @@ claim_in margins round is_confirmed claim =
 
 -- ---- the rounds
 
--- round number i, from 1, with all draws so far
+-- the line of round number i, counted from 1, with all draws so far
 abbrev pub draws_line : ℕ → ℕ → List ℕ
 draws_line i draws = codes "round " ++ decimal i ++ codes " draws " ++ decimal draws ++ codes "\n"
 
@@ -37,7 +37,7 @@ module _ (session : Session) where
       ++ flat_map (claim_in session.margins round (is_confirmed_at session i))
       (range_with_len 0 (length session.margins))
 
-  -- these rounds, the first of which has number i
+  -- the lines of these rounds, the first of which has number i
   abbrev pub rounds_from : ℕ → List Round → List ℕ
   rounds_from i [] = []
   rounds_from i (round ∷ rounds) = round_lines i round ++ rounds_from (i + 1) rounds

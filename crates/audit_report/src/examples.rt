@@ -14,7 +14,7 @@ pub fn one_card()
         codes "signed off yes\n" }
 {}
 
-/// Plans over twelve cards, at a limit of 0.2 and gamma 0.1: a margin of six votes needs seven draws, and one of twelve three.
+/// Plans for twelve cards, at a limit of 0.2 and a gamma of 0.1: a margin of six votes needs seven draws, and a margin of twelve needs three.
 pub fn twelve_cards()
     ensures two { plan_table
         (examples.file_of (6 ∷ 12 ∷ [])) 12 100 200000 ≡

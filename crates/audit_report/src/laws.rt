@@ -1,12 +1,12 @@
 //! The laws of these texts: each holds of every value that it names, and has no code.
 ghost use Rattle.audit_report.specs.Laws.{AllNeedLaw, ClosestClaimLaw};
 
-/// All claims together need the greatest number of draws that one of them needs, and a full count if one needs it.
+/// All claims together need the greatest number of draws that one of them needs, or a full count if one of them needs it.
 pub fn all_need()
     ensures { AllNeedLaw }
 {}
 
-/// All claims need what the one with the least margin needs.
+/// All claims together need what the claim with the smallest margin needs.
 pub fn closest_claim()
     ensures { ClosestClaimLaw }
 {}

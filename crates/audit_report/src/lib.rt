@@ -1,4 +1,4 @@
-//! The texts about an audit: the cards that a seed draws, how many draws a clean audit takes, and a session round by round.
+//! The texts about an audit: the cards that a seed draws, the number of draws that a clean audit takes, and a session round by round.
 #![tactic(auto)]
 
 pub mod examples;

@@ -1,4 +1,4 @@
-// How many draws a clean audit takes.
+// The number of draws that a clean audit takes.
 ghost use Rattle.std.specs.Prelude.{◌≡◌, ◌≤◌, ◌++◌, length, IfOk, IsTrue, string_bytes};
 ghost use Rattle.irv_base.specs.declared.limits.TheConstants.{GREATEST_GAMMA, GREATEST_LIMIT, MOST_CARDS, ROOM};
 ghost use Rattle.assertions.specs.Assertions.{is_proper};
@@ -27,7 +27,7 @@ fn add_margin(text: &mut String, assertion: &str, margin: u32) -> Result<(), All
     write!(text, "{assertion} margin {margin}: ")
 }
 
-// Adds the line of a claim that needs this many draws.
+// Adds the line for a claim that needs this many draws.
 fn add_claim(
     alloc: Global,
     text: &mut String,
@@ -61,9 +61,9 @@ fn both_need(need: Option<u32>, other: Option<u32>) -> Option<u32>
     Some(need?.max(other?))
 }
 
-/// A line for each assertion of the file: the draws without a discrepancy that confirm it, over a manifest of this many cards, with gamma
-/// in thousandths and the limit in millionths; or a full count, if neither as many draws as there are cards nor `MOST_DRAWS` are enough.
-/// The last line says what all of them take.
+/// One line for each assertion of the file. The line has the number of draws without a discrepancy that confirm the assertion, over a
+/// manifest of this many cards, with gamma in thousandths and the limit in millionths. It says a full count if neither as many draws as there
+/// are cards nor `MOST_DRAWS` are enough. The last line says what all assertions together take.
 pub fn plan_table(
     alloc: Global,
     f: &AssertionFile,

@@ -21,7 +21,7 @@ fn add_line(
     writeln!(text, "{k},{number},{batch}_{place}")
 }
 
-// Adds the line of draw `k`, which takes the card with this number.
+// Adds the line for draw `k`, which draws the card with this number.
 fn add_draw(text: &mut String, m: &Manifest, k: u32, number: u32) -> Result<(), AllocError>
     requires first { 1 ≤ number }
     requires last { number ≤ length (cards_of m.now) }
@@ -32,8 +32,8 @@ fn add_draw(text: &mut String, m: &Manifest, k: u32, number: u32) -> Result<(), 
     add_line(text, k, number, card.batch.text(), card.k)
 }
 
-/// A line for each of this many draws with the seed: its number, counted from 1, the number of the card that it takes, and that card's
-/// id, with a comma between each two.
+/// One line for each of this many draws with the seed. The line has the number of the draw, counted from 1, the number of the card that is
+/// drawn, and that card's id, separated by commas.
 pub fn sample_table(alloc: Global, m: &Manifest, seed: &Seed, draws: u32) -> Result<Vec<u8>, Memory>
     ensures { IfOk result (λ text. text.items ≡ sample_table m.now seed.now draws) }
 {

@@ -1,4 +1,4 @@
-// What is printed of a session.
+// What is printed for a session.
 ghost use Rattle.std.specs.Prelude.{◌≡◌, ◌≤◌, ◌<◌, ◌+◌, ◌++◌, ◌||◌, ℕ, Bool, length, flat_map, IfOk, get_or, false, codes, replicate, string_bytes};
 ghost use Rattle.std.specs.Fmt.{decimal};
 ghost use Rattle.std.specs.List.{range_with_len};
@@ -20,7 +20,7 @@ fn add_margin(text: &mut String, j: usize, margin: u32) -> Result<(), AllocError
     write!(text, "assertion {j} margin {margin} counts ")
 }
 
-// Adds the line of claim number `j`, from 1.
+// Adds the line for claim number `j`, counted from 1.
 fn add_claim(
     text: &mut String,
     j: usize,
@@ -40,7 +40,7 @@ fn add_claim(
     Ok(())
 }
 
-// Adds the lines of the claims in a round.
+// Adds the lines for the claims in a round.
 fn add_claims(
     text: &mut String,
     margins: &[u32],

@@ -1,4 +1,4 @@
--- The session with a round more is that of the draws.
+-- The session with one more round is that of the draws.
 use Rattle.std.proofs.Common.{◌≡◌, ◌∙◌, ℕ, ◌<◌, ◌≤◌, Bool, true, false, nat_le, Some, None, List, [], ◌∷◌, ◌++◌, All, get_or, length, length-append, map, take, refl, sym, ap, subst, arith}
 use Rattle.std.specs.Prelude.{if◌then◌else◌}
 use Rattle.std.proofs.lemmas.Bool.{leb-false, lt-leb}
@@ -49,7 +49,7 @@ pub long-drawn : (recorded : List Recorded) (seen : List Seen) (seed : List ℕ)
 long-drawn recorded seen seed n draws =
     length-map (drawn_cards seed n draws) (drawn_at recorded seen) ∙ length-map-range_with_len (λ k. drawn_card seed k n) 1 draws
 
--- where there are more draws, and each has its record, what is left to judge are the earlier rounds
+-- if there are more draws, and each has its record, only the earlier rounds are left to be judged
 pub refusal-is : (content : Content) (values : List (List ℕ → ℕ)) (recorded : List Recorded) (entries : List Entry) (draws : ℕ) →
     last_draws content.session.rounds < draws → without_record content.seed (length recorded) entries draws ≡ None →
     refusal content values recorded entries draws
@@ -87,7 +87,7 @@ module _ (content : Content) (values : List (List ℕ → ℕ)) (recorded : List
   long : length ds ≡ draws
   long = length-map-range_with_len _ 1 draws
 
-  -- each round is before the draws, where these are more than those of the last
+  -- each round is before the draws, if there are more of these than in the last round
   pub earlier : last_draws session.rounds < draws → All (λ round. round.draws < draws) session.rounds
   earlier more =
       All-weaker (λ r. r.draws ≤ last_draws session.rounds) (λ r. r.draws < draws) (λ r most. omega arith) session.rounds
@@ -141,7 +141,7 @@ module _ (content : Content) (values : List (List ℕ → ℕ)) (recorded : List
           ∙ counts-are values session.margins each recorded seen ds (get_or session.rounds k d).draws;
     }
 
-    -- with its last round
+    -- the same with its last round
     pub of-draws : IsSessionOf session.limit session.gamma claims recorded seen ds (with_round content next).session
     of-draws =
         let old = (session_law session.limit session.gamma claims recorded seen ds session some-claim assorters within).1 (sound.session, agrees) in

@@ -1,4 +1,4 @@
--- The counts of draws, of which some are seen as they are recorded.
+-- The counts of draws if some are seen as recorded.
 use Rattle.std.proofs.Common.{◌≡◌, ◌∙◌, ℕ, ◌+◌, ◌*◌, ◌==◌, cond, true, All, List, [], ◌∷◌, ◌++◌, count_by, length, map, refl, sym, ap, arith}
 use Rattle.std.specs.Prelude.{filter, sum_by}
 use Rattle.std.specs.Cmp.Lexicographic.{same_text}
@@ -45,7 +45,7 @@ module _ (value : List ℕ → ℕ) (is : IsAssorter value) where
   abbrev one : ℕ → Drawn → ℕ
   one k card = cond (compared value card == k) 1 0
 
-  -- how many of the draws have the discrepancy k
+  -- the number of draws with discrepancy k
   abbrev tally : ℕ → List Drawn → ℕ
   tally k drawn = count_by (λ d. d == k) (map (compared value) drawn)
 
@@ -72,7 +72,7 @@ module _ (value : List ℕ → ℕ) (is : IsAssorter value) where
       tally k (earlier ++ filter is_alike drawn) ≡ tally k earlier + length (filter is_alike drawn) * cond (2 == k) 1 0
   alike-more k earlier drawn = tally-append k earlier (filter is_alike drawn) ∙ ap (λ n. tally k earlier + n) (tally-alike k drawn)
 
-  -- counted at once, where so many are
+  -- draws counted at once, if there are this many
   pub more-alike : (earlier drawn : List Drawn) (before : Counts) (alike : ℕ) → alike ≡ length (filter is_alike drawn) →
       before ≡ counts_over value earlier →
       ◌≡◌ {A = Counts} (record before { n2 = before.n2 + alike }) (counts_over value (earlier ++ filter is_alike drawn))
@@ -89,7 +89,7 @@ module _ (value : List ℕ → ℕ) (is : IsAssorter value) where
       let e4 : before.n4 ≡ tally 4 (earlier ++ filter is_alike drawn) = omega (arith, alike-more 4 earlier drawn, now4) in
       λ i. record { n0 = e0 i; n1 = e1 i; n2 = e2 i; n3 = e3 i; n4 = e4 i }
 
-  -- with the others they are all
+  -- together with the others, they are all draws
   both : (k : ℕ) (earlier drawn : List Drawn) → tally k (earlier ++ filter is_alike drawn ++ filter is_odd drawn) ≡ tally k (earlier ++ drawn)
   both k earlier drawn =
       let whole = tally-append k (earlier ++ filter is_alike drawn) (filter is_odd drawn) in

@@ -1,4 +1,4 @@
--- Whether the counts of earlier rounds are others, one round and one claim after the other.
+-- Whether the counts of earlier rounds are different, one round and one claim at a time.
 use Rattle.std.proofs.Common.{◌≡◌, ◌∙◌, ℕ, suc, ◌+◌, ◌<◌, ◌≤◌, ◌&&◌, ◌==◌, Bool, true, false, cond, Option, Some, None, List, [], ◌∷◌, All, AllPairs, length, take, fold, refl, sym, ap, arith, eqb-true}
 use Rattle.std.proofs.lemmas.Bool.{and_parts}
 use Rattle.std.proofs.lemmas.List.Elements.{All-nil, All-cons, All-head, All-tail}
@@ -22,7 +22,7 @@ same-counts-is a b h =
     let e4 = eqb-true a.n4 b.n4 p4.1 in
     λ i. record { n0 = e0 i; n1 = e1 i; n2 = e2 i; n3 = e3 i; n4 = e4 i }
 
--- where none is changed, the counts are the same
+-- if no counts are changed, the counts are the same
 pub unchanged-in : (round claim : ℕ) (expected found : List Counts) → length expected ≡ length found → changed_in round claim expected found ≡ None →
     expected ≡ found
 unchanged-in round claim [] [] long none = refl
@@ -55,7 +55,7 @@ unchanged-from values drawn number (round ∷ rounds) each long none =
     (unchanged-in number 1 round.counts (all_counts values (take round.draws drawn)) (here ∙ sym (long round.draws)) parts.0)
     (unchanged-from values drawn (number + 1) rounds (All-tail (λ r. length r.counts ≡ length values) round rounds each) long parts.1)
 
--- ---- the draws of the last round are the most
+-- ---- the last round has the most draws
 abbrev last-from : ℕ → List Round → ℕ
 last-from a rounds = fold (λ earlier round. round.draws) a rounds
 

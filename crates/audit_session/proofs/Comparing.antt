@@ -1,4 +1,4 @@
--- What is compared of a drawn card, and the draws that are left.
+-- What is compared for a drawn card, and the draws that are left.
 use Rattle.std.proofs.Common.{◌≡◌, ◌∙◌, ℕ, suc, ◌+◌, ◌-◌, ◌<◌, ◌≤◌, Bool, cond, ◌++◌, ◌∷◌, [], List, Some, get_or, length, map, take, refl, sym, ap, arith}
 use Rattle.std.specs.Prelude.{find}
 use Rattle.std.specs.List.{range_with_len, slice_get}
@@ -35,7 +35,7 @@ module _ (seen : List Seen) (ds : List ℕ) (items : List SeenCard) (are : items
   pub one-is : one ≡ seen_card seen (get_or ds i 0)
   one-is = is ∙ ap (λ all. get_or all i one) are ∙ get_or-map (seen_card seen) ds i 0 one below
 
-  -- with what is recorded of the card it is what is compared
+  -- together with what is recorded for the card, it is what is compared
   pub one-drawn-more : (recorded : List Recorded) (all : List Drawn) (r : Recorded) → slice_get recorded (one.card - 1) ≡ Some r →
       all ≡ take i (map (drawn_at recorded seen) ds) →
       all ++ record { recorded = r; seen = one.seen } ∷ [] ≡ take (i + 1) (map (drawn_at recorded seen) ds)
@@ -51,7 +51,7 @@ module _ (seen : List Seen) (ds : List ℕ) (items : List SeenCard) (are : items
       ap (λ xs. xs ++ record { recorded = r; seen = one.seen } ∷ []) so-far ∙ ap (λ x. take i list ++ x ∷ []) (sym here)
       ∙ sym (take_more list i (record { recorded = r; seen = one.seen }) within)
 
--- the first of the draws that are left passes, or one of those behind it
+-- the first of the draws that are left passes, or one of those after it does
 pub find-left : (p : ℕ → Bool) (i n k next : ℕ) → i < n → k ≡ i + 1 → next ≡ i + 1 + 1 →
     find p (range_with_len (1 + i) (n - i)) ≡ cond (p k) (Some k) (find p (range_with_len next (n - (i + 1))))
 find-left p i n k next below is next-is =

@@ -14,7 +14,7 @@ use Rattle.audit_session.specs.Going.{all_counts, compared, counts_over, value_a
 count-push : (k : ℕ) (ds : List ℕ) (d : ℕ) → count_by (λ x. x == k) (ds ++ d ∷ []) ≡ count_by (λ x. x == k) ds + cond (d == k) 1 0
 count-push k ds d = sum_by-append (λ x. cond (x == k) 1 0) ds (d ∷ []) ∙ omega arith
 
--- one card more is counted
+-- one more card is counted
 pub over-more : (value : List ℕ → ℕ) (earlier drawn : List Drawn) (i : ℕ) (card : Drawn) → i < length drawn → card ≡ get_or drawn i card →
     map (compared value) (earlier ++ take i drawn) ++ compared value card ∷ [] ≡ map (compared value) (earlier ++ take (i + 1) drawn)
 over-more value earlier drawn i card below is =
@@ -23,7 +23,7 @@ over-more value earlier drawn i card below is =
     (append_assoc earlier (take i drawn) (card ∷ [])
     ∙ ap (λ t. earlier ++ t) (ap (λ x. take i drawn ++ x ∷ []) is ∙ sym (take_more drawn i card below)))
 
--- ---- of the claims, one after the other
+-- ---- the counts of the claims, in order
 pub claim-counts : (values : List (List ℕ → ℕ)) (drawn : List Drawn) (before : List Counts) (j : ℕ) (d : Counts) → j < length values →
     before ≡ all_counts values drawn → get_or before j d ≡ counts_over (value_at values j) drawn
 claim-counts values drawn before j d below is =
@@ -39,7 +39,7 @@ one-claim-more values drawn all j counts below so-far counts-is =
     get_or-map (λ value. counts_over value drawn) values j (λ ranking. 0) counts below ∙ sym counts-is in
     ap (λ xs. xs ++ counts ∷ []) so-far ∙ ap (λ x. take j list ++ x ∷ []) (sym here) ∙ sym (take_more list j counts within)
 
--- ---- they are of as many draws
+-- ---- the counts are over as many draws
 over-draws : (value : List ℕ → ℕ) → IsAssorter value → (drawn : List Drawn) → draws_in (counts_over value drawn) ≡ length drawn
 over-draws value is drawn =
     all_counted (map (compared value) drawn)
@@ -53,7 +53,7 @@ all-draws values assorters drawn =
     All-map (λ counts. draws_in counts ≡ length drawn) (λ value. counts_over value drawn) values
     (λ k value below. over-draws (get_or values k value) (assorters k value below) drawn)
 
--- of no draws there are no counts, for each claim
+-- if there are no draws, all counts of each claim are 0
 pub none-more : (values : List (List ℕ → ℕ)) (counts : List Counts) (j : ℕ) (none : Counts) → j < length values →
     none ≡ record { n0 = 0; n1 = 0; n2 = 0; n3 = 0; n4 = 0 } → counts ≡ take j (all_counts values []) →
     counts ++ none ∷ [] ≡ take (j + 1) (all_counts values [])

@@ -1,4 +1,4 @@
--- A session of draws looks at the drawn cards alone: what was seen of the others may be taken away.
+-- A session of draws looks only at the drawn cards, so what was seen on the others can be removed.
 use Rattle.std.proofs.Common.{◌≡◌, ℕ, ◌-◌, ◌≤◌, Bool, true, false, if◌then◌else◌, List, [], ◌∷◌, map, length, take, get_or, All, Option, None, IfSome, refl, sym, ap, ◌∙◌}
 use Rattle.std.proofs.Math.Path.{fun_ext}
 use Rattle.std.specs.Option.{unwrap_or}
@@ -21,7 +21,7 @@ use Rattle.session_state.proofs.PartlySeen.{kept}
 if_drawn : Bool → Option Seen → Option Seen
 if_drawn drawn seen = if drawn then seen else None
 
--- what is seen of the drawn cards alone
+-- what is seen on only the drawn cards
 pub seen_of_drawn : List ℕ → (ℕ → Option Seen) → ℕ → Option Seen
 seen_of_drawn drawn looked_at card = if_drawn (is_in drawn card) (looked_at card)
 
@@ -30,7 +30,7 @@ module _ (drawn : List ℕ) (looked_at : ℕ → Option Seen) where
   unfolding seen_of_drawn if_drawn
   of_drawn card m = rw (in-from_member m) refl
 
-  -- the readings of the drawn cards are then all there are
+  -- then the readings of the drawn cards are all the readings there are
   pub drawn-readings : (actual : List (List ℕ)) → All (λ card. IfSome (looked_at card) (IsReading (get_or actual (card - 1) []))) drawn → (card : ℕ) →
       IfSome (seen_of_drawn drawn looked_at card) (IsReading (get_or actual (card - 1) []))
   unfolding seen_of_drawn if_drawn
@@ -78,7 +78,7 @@ module _ (recorded : List Recorded) (looked_at : ℕ → Option Seen) (drawn : L
         } in
         ap round (fun_ext (λ value. same-discrepancies value end))
 
-    -- so a session is as good a session of what is seen of the drawn cards alone
+    -- so a session is also a session of what is seen on only the drawn cards
     pub of-drawn : (session : Session) → IsSessionOf limit gamma claims recorded before drawn session → IsSessionOf limit gamma claims recorded after drawn session
     of-drawn session of' = record {
       ends = of'.ends;

@@ -1,4 +1,4 @@
--- The risks of the claims, one after the other.
+-- The risks of the claims, in order.
 use Rattle.std.proofs.Common.{◌≡◌, ◌∙◌, ℕ, zero, suc, ◌+◌, ◌<◌, List, [], ◌∷◌, ◌++◌, get_or, length, take, refl, sym, ap, arith}
 use Rattle.std.proofs.lemmas.List.{take_more}
 use Rattle.km_risk.specs.declared.draws.Counts.{Counts}

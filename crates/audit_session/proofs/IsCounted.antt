@@ -38,7 +38,7 @@ first-drawn seed cards draws most end few within =
     ∙ sym (take-map-range_with_len (λ k. drawn_card seed k cards) 1 most end (omega arith))
 
 module _ (limit gamma : ℕ) (claims : List Audited) (recorded : List Recorded) (seen : List Seen) where
-  -- a round has the counts of its draws alone
+  -- the counts of a round are only over its own draws
   round-same : (ds es : List ℕ) (end : ℕ) → take end ds ≡ take end es → round_to gamma claims recorded seen ds end ≡ round_to gamma claims recorded seen es end
   round-same ds es end same =
       let round : List ℕ → Round = λ first. record {
@@ -56,7 +56,7 @@ module _ (limit gamma : ℕ) (claims : List Audited) (recorded : List Recorded) 
       let rest = rounds-same ds es ends (All-tail (λ e. take e ds ≡ take e es) end ends h) in
       λ i. first i ∷ rest i
 
-  -- so the session of the first draws is one of all
+  -- so the session of the first draws is a session of all draws
   pub of-more : (ds es : List ℕ) (session : Session) → length ds ≤ length es → ((end : ℕ) → end ≤ length ds → take end ds ≡ take end es) →
       IsSessionOf limit gamma claims recorded seen ds session → IsSessionOf limit gamma claims recorded seen es session
   of-more ds es session few same of' = record {

@@ -1,4 +1,4 @@
--- One round more: its counts are those of all cards that are drawn, and its risks those of these counts.
+-- One more round: its counts are those of all cards that are drawn, and its risks are those of these counts.
 use Rattle.std.proofs.Common.{◌≡◌, ◌∙◌, ℕ, All, get_or, List, length, map, sym, ap, arith}
 use Rattle.std.proofs.lemmas.List.{take_all}
 use Rattle.manifest.specs.declared.recorded.Recorded.{Recorded}
@@ -47,7 +47,7 @@ settings content cards gamma margins sound same-cards same-gamma same k d below 
       gamma_within = omega (arith, sound.limits.most_gamma, same-gamma);
     }
 
--- a round over the same cards, by the same margins, is the same
+-- a round over the same cards with the same margins is the same
 pub over-same : (values : List (List ℕ → ℕ)) (cards cards' gamma gamma' : ℕ) (margins margins' : List ℕ) (drawn drawn' : List Drawn) →
     cards ≡ cards' → gamma ≡ gamma' → margins ≡ margins' → drawn ≡ drawn' →
     ◌≡◌ {A = Round}

@@ -1,4 +1,4 @@
--- Drawn cards that are seen as they are recorded: whatever a claim is about, their discrepancy is 2.
+-- Drawn cards that are seen as recorded. Their discrepancy is 2, whatever a claim is about.
 use Rattle.std.specs.Prelude.{◌==◌, ℕ, Bool, false, not, List, filter}
 use Rattle.std.specs.Cmp.Lexicographic.{pointwise}
 use Rattle.manifest.specs.declared.recorded.Recorded.{Recorded}
@@ -7,7 +7,7 @@ use Rattle.assorters.specs.declared.seen.Seen.{Seen}
 use Rattle.assorters.specs.declared.seen.Seen.TheVariants.{Found, Missing}
 use Rattle.audit_session.specs.declared.compared.Drawn.{Drawn}
 
--- the card is found, with this ranking
+-- the card is found with this ranking
 abbrev pub is_found_as : List ℕ → Seen → Bool
 is_found_as ranking (Found seen) = pointwise ◌==◌ ranking seen
 is_found_as ranking Missing = false

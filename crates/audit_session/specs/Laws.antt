@@ -1,4 +1,4 @@
--- What the risk limit counts: sessions that went on by the draws of a seed.
+-- What the risk limit counts: sessions that continued with the draws of a seed.
 use Rattle.std.specs.Prelude.{◌≡◌, ℕ, ◌-◌, ◌≤◌, List, [], length, slice_index_or, All, None, IfSome, IsTrue}
 use Rattle.manifest.specs.declared.recorded.Recorded.{Recorded}
 use Rattle.km_risk.specs.Reach.{IsSequence}
@@ -13,14 +13,14 @@ use Rattle.audit_session.specs.Going.{all_seen, drawn_cards, next_session}
 use Rattle.audit_session.specs.Refusals.{refusal}
 use Rattle.seen_file.specs.Seen.{Entry, seen_in}
 
--- each drawn card that has a record of what is seen is missing, or found with its actual ranking; of the others nothing is asked
+-- each drawn card that has a record of what is seen is missing, or found with its actual ranking; nothing is required of other cards
 abbrev pub AreTrueEntries : List (List ℕ) → List Entry → List ℕ → Type 0
 AreTrueEntries actual entries drawn =
     All (λ card. IfSome (seen_in entries card) (IsReading (slice_index_or actual (card - 1) [])))
     drawn
 
--- a session that `advance` made of some draws, as its contract has it, and that is signed off, is counted; also among sequences of
--- more draws, however many the seed then gives
+-- a session that `advance` made of some draws, by its contract, and that is signed off, is counted; also among sequences of more draws,
+-- however many the seed then gives
 abbrev pub AdvancedIsCounted : Type 0
 AdvancedIsCounted =
     (limit gamma draws most : ℕ) (seed : List ℕ) (claims : List Audited) (recorded : List Recorded)
@@ -34,10 +34,10 @@ AdvancedIsCounted =
     IsSequence (length recorded) most (drawn_cards seed (length recorded) most)
     × MayBeSignedOff limit gamma claims recorded actual (drawn_cards seed (length recorded) most)
 
--- a session goes on by a round, whatever its earlier rounds say
+-- a session continues with a round, whatever its earlier rounds say
 pub record GoesOn (content : Content) (values : List (List ℕ → ℕ)) (recorded : List Recorded)
     (entries : List Entry) (draws : ℕ) : Type 0 where
-  -- these are what `advance_by` requires, and what it is given by its types
+  -- these are the requirements of `advance_by`, and what its types ensure
   pub sound : IsSound content
   pub cards : content.session.cards ≡ length recorded
   pub each : length content.session.margins ≡ length values
@@ -46,7 +46,7 @@ pub record GoesOn (content : Content) (values : List (List ℕ → ℕ)) (record
   -- this is what `advance_by` promises if it answers
   pub not_refused : refusal content values recorded entries draws ≡ None
 
--- a session that has gone on and is signed off is counted
+-- a session that has continued and is signed off is counted
 abbrev pub NextIsCounted : Type 0
 NextIsCounted =
     (content : Content) (draws most : ℕ) (values : List (List ℕ → ℕ)) (recorded : List Recorded)

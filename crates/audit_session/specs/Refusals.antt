@@ -1,4 +1,4 @@
--- Why a session doesn't go on, in the order in which it is judged.
+-- Why a session doesn't continue, in the order in which the reasons are judged.
 use Rattle.std.specs.Prelude.{◌≡◌, ℕ, ◌+◌, ◌==◌, ◌&&◌, Bool, nat_le, not, if◌then◌else◌, List, [], ◌∷◌, find, fold, map, take, length, Option, Some, None, is_some, option_map}
 use Rattle.std.specs.List.{range_with_len}
 use Rattle.km_risk.specs.declared.draws.Counts.{Counts}
@@ -15,7 +15,7 @@ use Rattle.audit_session.specs.declared.seen.Unseen.TheVariants.{NoRecord as NoR
 use Rattle.audit_session.specs.Going.{all_counts, all_seen, drawn_at, drawn_cards}
 use Rattle.seen_file.specs.Seen.{Entry, seen_in}
 
--- the draws of the last round
+-- the number of draws at the last round
 abbrev pub last_draws : List Round → ℕ
 last_draws rounds = fold (λ earlier round. round.draws) 0 rounds
 
@@ -33,17 +33,17 @@ module _ (seed : List ℕ) (cards : ℕ) (entries : List Entry) (draws : ℕ) wh
   abbrev pub without_record : Option AdvanceFault
   without_record = option_map (λ k. NoRecord (drawn_card seed k cards) k) unseen_draw
 
-  -- it names that draw; memory may always be short
+  -- the fault names that draw; memory may always run out
   abbrev pub IsUnseen : Unseen → Type 0
   IsUnseen (NoRecordOf card k) = (unseen_draw ≡ Some k) × (card ≡ drawn_card seed k cards)
   IsUnseen WantOfMemory = Unit {0}
 
--- what a draw without a record is to a round
+-- the fault of a round for a draw without a record
 abbrev pub as_advance_fault : Unseen → AdvanceFault
 as_advance_fault (NoRecordOf card k) = NoRecord card k
 as_advance_fault WantOfMemory = Memory
 
--- ---- the first earlier round, and its first claim, whose counts are others
+-- ---- the first earlier round, and its first claim, whose counts are different
 
 abbrev pub same_counts : Counts → Counts → Bool
 same_counts a b =
@@ -67,7 +67,7 @@ changed_from values drawn number (round ∷ rounds) =
     first_of (changed_in number 1 round.counts (all_counts values (take round.draws drawn)))
     (changed_from values drawn (number + 1) rounds)
 
--- a round is refused by the draws so far, then by the cards without a record, then by the counts of earlier rounds
+-- a round is refused first for the draws so far, then for cards without a record, then for the counts of earlier rounds
 abbrev pub refusal :
     Content → List (List ℕ → ℕ) → List Recorded → List Entry → ℕ → Option AdvanceFault
 refusal content values recorded entries draws =
@@ -78,7 +78,7 @@ refusal content values recorded entries draws =
     (first_of (without_record content.seed cards entries draws)
     (changed_from values drawn 1 content.session.rounds))
 
--- a round is refused for this first reason; memory may always be wanting
+-- a round is refused for this first reason; memory may always run out
 abbrev pub Refuses : Option AdvanceFault → AdvanceFault → Type 0
 Refuses first Memory = Unit {0}
 Refuses first fault = first ≡ Some fault

@@ -1,4 +1,4 @@
-// Drawn cards that are seen as they are recorded.
+// Drawn cards that are seen as recorded.
 ghost use Rattle.std.specs.Prelude.{◌≡◌, filter, IfOk};
 ghost use Rattle.audit_session.specs.Alike.{is_found_as, is_odd, is_seen_as};
 
@@ -32,7 +32,7 @@ fn is_odd(drawn: &Drawn) -> bool
     !is_seen_as(&drawn.recorded, &drawn.seen)
 }
 
-/// The cards that aren't seen as they are recorded, in their order. Each other one is clean for every claim.
+/// Returns the cards that aren't seen as recorded, in order. Every other card is clean for every claim.
 pub fn odd_among(alloc: Global, drawn: &[Drawn]) -> Result<Vec<Drawn>, Memory>
     ensures { IfOk result (λ odd. odd.items ≡ filter is_odd drawn.now) }
 {

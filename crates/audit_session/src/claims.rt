@@ -8,17 +8,17 @@ use assertion_file::AssertionFile;
 use assertions::value_of;
 use irv_base::Ranking;
 
-/// Claims about a contest, each a function of rankings whose values are 0, 1 and 2: it is true if their mean is more than 1.
+/// Claims about a contest. Each is a function of rankings whose values are 0, 1 and 2, and it is true if their mean is more than 1.
 pub trait Claims {
     /// The function of each claim.
     ghost values: { Self → List (List ℕ → ℕ) };
 
-    /// How many claims there are.
+    /// Returns the number of claims.
     fn count(&self) -> u64
         ensures all { result ≡ length (values self.now) }
         ensures assorters { All IsAssorter (values self.now) };
 
-    /// What a ranking counts as for the claim with this index, counted from 0.
+    /// Returns the value of a ranking for the claim with this index, counted from 0.
     fn value(&self, j: u64, r: &Ranking) -> u8
         requires { j < length (values self.now) }
         ensures value { result ≡ value_at (values self.now) j r.now }

@@ -1,13 +1,13 @@
-// What is compared of a drawn card.
+// What is compared for a drawn card.
 
 use assorters::Seen;
 use manifest::Recorded;
 
-/// What is compared of a drawn card.
+/// What is compared for a drawn card.
 #[derive(Clone, Copy)]
 pub struct Drawn {
-    /// What the ballot file has of it.
+    /// What the ballot file records for the card.
     pub recorded: Recorded,
-    /// What people saw of it.
+    /// What people saw on the card.
     pub seen: Seen,
 }

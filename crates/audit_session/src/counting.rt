@@ -22,7 +22,7 @@ fn discrepancy<T: Claims>(claims: &T, j: u64, drawn: &Drawn) -> u8
     assorter.overstated(&drawn.recorded, &drawn.seen)
 }
 
-// One more draw with this discrepancy.
+// The counts with one more draw of this discrepancy.
 fn counted(counts: Counts, d: u8) -> Counts
     requires few { draws_in counts < 2 ^ 31 }
     requires d { d ≤ 4 }
@@ -39,7 +39,7 @@ fn counted(counts: Counts, d: u8) -> Counts
     }
 }
 
-// This many more draws that are seen as recorded.
+// The counts with this many more draws that are seen as recorded.
 fn with_alike(counts: Counts, alike: usize) -> Counts
     requires { draws_in counts + alike < 2 ^ 31 }
     ensures { result ≡ record counts { n2 = counts.n2 + alike } }
@@ -66,8 +66,8 @@ fn counts_over<T: Claims>(before: Counts, claims: &T, j: u64, drawn: &[Drawn]) -
     counts
 }
 
-/// The counts of each claim, with these draws after those that were counted before. Cards that are seen as they are recorded are counted
-/// once for all claims, and only the others for each.
+/// Returns the counts of each claim, with these draws after those that were counted before. Cards that are seen as recorded are counted
+/// once for all claims; only the other cards are counted for each claim.
 pub fn all_counts<T: Claims>(
     alloc: Global,
     claims: &T,
@@ -80,7 +80,7 @@ pub fn all_counts<T: Claims>(
         → before.now ≡ all_counts (T.values claims.now) earlier
         → all.items ≡ all_counts (T.values claims.now) (earlier ++ drawn.now)) }
 {
-    // Asks for what its contract says: the values of the claims are 0, 1 and 2.
+    // Calls this for what its contract says: the values of the claims are 0, 1 and 2.
     let _count = claims.count();
     let odd = odd_among(alloc, drawn)?;
     let alike = drawn.len() - odd.len();
@@ -92,7 +92,7 @@ pub fn all_counts<T: Claims>(
     Ok(all)
 }
 
-/// The counts of no draws, for each claim.
+/// Returns the counts of no draws for each claim.
 pub fn none_counted<T: Claims>(alloc: Global, claims: &T) -> Result<Vec<Counts>, Memory>
     ensures { IfOk result (λ counts. counts.items ≡ all_counts (T.values claims.now) []) }
 {

@@ -11,8 +11,7 @@ use sampler::Seed;
 use seen_file::SeenCards;
 use std::alloc::Global;
 
-/// The cards of the first draws, with what is compared of them, or the first draw whose card
-/// has no record.
+/// Returns the cards of the first draws, with what is compared for them, or the first draw whose card has no record.
 pub fn drawn_cards(
     alloc: Global,
     seed: &Seed,

@@ -1,4 +1,4 @@
-// The counts of earlier rounds, counted again.
+// The counts of earlier rounds, which are counted again.
 ghost use Rattle.std.specs.Prelude.{◌≡◌, ◌<◌, ◌≤◌, None, All, AllPairs, take, length, IfOk, IfErr};
 ghost use Rattle.irv_base.specs.declared.limits.TheConstants.{MOST_DRAWS};
 ghost use Rattle.audit_session.specs.Going.{all_counts};
@@ -12,7 +12,7 @@ use km_risk::Counts;
 use session_state::DoneRound;
 use std::alloc::Global;
 
-/// How many draws there were at the end of the last round.
+/// Returns the number of draws at the end of the last round.
 pub fn last_draws(rounds: &[DoneRound]) -> u32
     ensures { result ≡ last_draws rounds.now }
 {
@@ -22,7 +22,7 @@ pub fn last_draws(rounds: &[DoneRound]) -> u32
     }
 }
 
-// The first claim whose counts were others in the round.
+// The first claim whose counts were different in the round.
 fn first_changed(round: u32, expected: &[Counts], found: &[Counts]) -> Option<AdvanceFault>
     requires { length expected.now ≡ length found.now }
     ensures { result ≡ changed_in round 1 expected.now found.now }
@@ -40,8 +40,7 @@ fn first_changed(round: u32, expected: &[Counts], found: &[Counts]) -> Option<Ad
     None
 }
 
-/// The counts of all claims at the end of the last round, or the first round and claim whose
-/// counts were others.
+/// Returns the counts of all claims at the end of the last round, or the first round and claim whose counts were different.
 pub fn counts_before<T: Claims>(
     alloc: Global,
     rounds: &[DoneRound],
@@ -58,7 +57,7 @@ pub fn counts_before<T: Claims>(
     ensures same { IfOk result (λ _. changed_from (T.values claims.now) drawn.now 1 rounds.now ≡ None) }
     ensures refused { IfErr result (Refuses (changed_from (T.values claims.now) drawn.now 1 rounds.now)) }
 {
-    // Asks for what its contract says: the values of the claims are 0, 1 and 2.
+    // Calls this for what its contract says: the values of the claims are 0, 1 and 2.
     let _count = claims.count();
     let mut counts = none_counted(alloc, claims)?;
     let mut from = 0;

@@ -1,4 +1,4 @@
-//! A worked example: a session that goes on and is counted.
+//! A worked example: a session that continues and is counted.
 ghost use Rattle.std.specs.Prelude.{ℕ, List, IsTrue};
 ghost use Rattle.session_state.specs.Sessions.{is_signed_off};
 ghost use Rattle.session_state.specs.declared.digests.Digests.{Digests};
@@ -6,7 +6,7 @@ ghost use Rattle.audit_session.specs.Going.{drawn_cards, next_session};
 ghost use Rattle.audit_session.specs.Laws.{AreTrueEntries, GoesOn};
 ghost use Rattle.audit_session.specs.Examples as examples;
 
-/// One card, which is drawn again and again whatever the seed: the session goes on with five draws, and is signed off.
+/// One card is drawn again and again, whatever the seed. The session continues with five draws, and is signed off.
 pub fn one_card()
     ensures seen { (seed : List ℕ) →
         AreTrueEntries examples.one_actual examples.one_entry (drawn_cards seed 1 5) }

@@ -1,4 +1,4 @@
-// Why a session doesn't go on.
+// Why a session doesn't continue.
 ghost use Rattle.std.specs.Prelude.{◌≡◌};
 ghost use Rattle.audit_session.specs.Refusals.{as_advance_fault};
 ghost use Rattle.audit_session.specs.declared.fault.AdvanceFault.TheVariants.{Memory as WantOfMemory};
@@ -10,14 +10,14 @@ use std::alloc::AllocFailed;
 use std::error::Error;
 use std::fmt;
 
-/// Why a session doesn't go on.
+/// Why a session doesn't continue.
 #[derive(Clone, Copy, Debug, PartialEq, Eq)]
 pub enum AdvanceFault {
-    /// The last round had this many draws already.
+    /// The last round already had this many draws.
     Smaller {
         had: u32,
     },
-    /// The card of draw `k` has no record among the seen.
+    /// The card of draw `k` has no record among the seen cards.
     NoRecord {
         card: u32,
         k: u32,
@@ -29,7 +29,7 @@ pub enum AdvanceFault {
         expected: Counts,
         found: Counts,
     },
-    /// Memory could not be had.
+    /// Memory could not be allocated.
     Memory,
 }
 

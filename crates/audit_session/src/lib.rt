@@ -1,5 +1,4 @@
-//! The rounds of an audit, one after the other: what is drawn and seen is counted, and the
-//! session goes on, or is refused.
+//! The rounds of an audit, in order. Each round counts what is drawn and seen, and the session continues or is refused.
 #![tactic(auto)]
 
 mod alike;

@@ -1,4 +1,4 @@
-// One round more.
+// The next round.
 ghost use Rattle.std.specs.Prelude.{◌≡◌, ◌≤◌, None, map, length, IfOk, IfErr, OnErr};
 ghost use Rattle.irv_base.specs.declared.limits.TheConstants.{MOST_DRAWS};
 ghost use Rattle.session_state.specs.Claims.{audited, audited_by, values_of};
@@ -18,7 +18,7 @@ use seen_file::SeenCards;
 use session_state::{DoneRound, Session, signed_off};
 use std::alloc::Global;
 
-// The round up to this number of draws, in all, or why there is none.
+// The round up to this number of draws in total, or why there is none.
 fn next_round<T: Claims>(
     alloc: Global,
     s: &Session,
@@ -40,7 +40,7 @@ fn next_round<T: Claims>(
     ensures refused { IfErr result
         (Refuses (refusal s.now (T.values claims.now) l.now seen.now draws)) }
 {
-    // Asks for what their contracts say: the session is sound, and the values of the claims are 0, 1 and 2.
+    // Calls these for what their contracts say: the session is sound, and the values of the claims are 0, 1 and 2.
     let _cards = s.cards();
     let _count = claims.count();
     let had = last_draws(s.rounds());
@@ -62,11 +62,11 @@ fn next_round<T: Claims>(
     Ok(round)
 }
 
-/// Adds the round up to this number of draws, in all, and answers whether the session is signed off then.
+/// Adds the round up to this number of draws in total, and returns whether the session is then signed off.
 ///
-/// It is refused, in this order: if there aren't more draws than at the last round; if the card of a draw has no record of what is seen,
-/// at the first such draw; if the cards seen don't give the counts of an earlier round, at the first such round, and its first such
-/// claim. A session that is refused stays as it is.
+/// It is refused for these reasons, in this order: there aren't more draws than at the last round; the card of a draw has no record of what
+/// is seen (the fault names the first such draw); or the seen cards don't give the counts of an earlier round (the fault names the first such
+/// round and its first such claim). A session that is refused doesn't change.
 pub fn advance_by<T: Claims>(
     alloc: Global,
     s: &mut Session,
@@ -93,7 +93,7 @@ pub fn advance_by<T: Claims>(
         (Refuses (refusal s.old (T.values claims.now) l.now seen.now draws)) }
     ensures kept { OnErr result (s.new ≡ s.old) }
 {
-    // Asks for what their contracts say: the session is sound, and the values of the claims are 0, 1 and 2.
+    // Calls these for what their contracts say: the session is sound, and the values of the claims are 0, 1 and 2.
     let _cards = s.cards();
     let _count = claims.count();
     let round = next_round(alloc, s, l, claims, seen, draws)?;
@@ -101,12 +101,12 @@ pub fn advance_by<T: Claims>(
     Ok(signed_off(s))
 }
 
-/// Adds the round up to this number of draws, in all, and answers whether the session is signed off then: the claims are those of an
+/// Adds the round up to this number of draws in total, and returns whether the session is then signed off. The claims are those of an
 /// assertion file.
 ///
-/// It is refused, in this order: if there aren't more draws than at the last round; if the card of a draw has no record of what is seen,
-/// at the first such draw; if the cards seen don't give the counts of an earlier round, at the first such round, and its first such
-/// claim. A session that is refused stays as it is.
+/// It is refused for these reasons, in this order: there aren't more draws than at the last round; the card of a draw has no record of what
+/// is seen (the fault names the first such draw); or the seen cards don't give the counts of an earlier round (the fault names the first such
+/// round and its first such claim). A session that is refused doesn't change.
 pub fn advance(
     alloc: Global,
     s: &mut Session,

@@ -9,7 +9,7 @@ use irv_base::Memory;
 use km_risk::{Counts, risk};
 use std::alloc::Global;
 
-/// The printed risk of each claim, by its margin and its counts.
+/// Returns the printed risk of each claim, from its margin and its counts.
 pub fn risks_of(
     alloc: Global,
     cards: u32,

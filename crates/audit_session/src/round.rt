@@ -1,4 +1,4 @@
-// The round over drawn cards.
+// A round over drawn cards.
 ghost use Rattle.std.specs.Prelude.{◌≡◌, ◌≤◌, None, All, length, take, IfOk, IfErr};
 ghost use Rattle.irv_base.specs.declared.limits.TheConstants.{MOST_DRAWS};
 ghost use Rattle.km_risk.specs.Factor.{IsSetting};
@@ -22,7 +22,7 @@ use seen_file::SeenCards;
 use session_state::DoneRound;
 use std::alloc::Global;
 
-/// The round over all these cards, of this many in all, if the first of them, as many as `had`, are counted before.
+/// Makes the round over all these cards, of this many in total, if the first `had` of them are already counted.
 pub fn round_over<T: Claims>(
     alloc: Global,
     cards: u32,
@@ -44,7 +44,7 @@ pub fn round_over<T: Claims>(
       risks = risks_of cards gamma margins.now (all_counts (T.values claims.now) drawn.now);
     }) }
 {
-    // Asks for what its contract says: the values of the claims are 0, 1 and 2.
+    // Calls this for what its contract says: the values of the claims are 0, 1 and 2.
     let _count = claims.count();
     let (_, rest) = drawn.split_at(had);
     let counts = all_counts(alloc, claims, before, rest)?;
@@ -52,8 +52,8 @@ pub fn round_over<T: Claims>(
     Ok(DoneRound::new(drawn.len() as u32, counts, risks))
 }
 
-/// The first round of an audit of claims with these margins, up to this number of draws, or the first draw whose card has no record of
-/// what is seen.
+/// Makes the first round of an audit of claims with these margins, up to this number of draws, or returns the first draw whose card has no
+/// record of what is seen.
 pub fn first_round<T: Claims>(
     alloc: Global,
     margins: &[u32],

@@ -1,4 +1,4 @@
-// What is seen of the drawn cards, apart from their records.
+// What is seen on the drawn cards, apart from their records.
 ghost use Rattle.std.specs.Prelude.{◌≡◌, ◌≤◌, None, map, IfOk, IfErr};
 ghost use Rattle.audit_session.specs.Going.{all_seen, drawn_cards, seen_card};
 ghost use Rattle.audit_session.specs.Refusals.{IsUnseen, unseen_draw};
@@ -11,21 +11,21 @@ use std::alloc::{AllocFailed, Global};
 use std::error::Error;
 use std::fmt;
 
-/// A drawn card by its number, from 1, and what people saw of it.
+/// A drawn card by its number, counted from 1, and what people saw on it.
 #[derive(Clone, Copy)]
 pub struct SeenCard {
-    /// Its number.
+    /// The number of the card.
     pub card: u32,
-    /// What people saw of it.
+    /// What people saw on the card.
     pub seen: Seen,
 }
 
-/// Why nothing can be said of the drawn cards.
+/// Why nothing can be said about the drawn cards.
 #[derive(Clone, Copy, Debug, PartialEq, Eq)]
 pub enum Unseen {
-    /// The card of draw `k` has no record among the seen.
+    /// The card of draw `k` has no record among the seen cards.
     NoRecord { card: u32, k: u32 },
-    /// Memory could not be had.
+    /// Memory could not be allocated.
     Memory,
 }
 
@@ -50,7 +50,7 @@ impl<T: Drop> From<AllocFailed<T>> for Unseen {
     }
 }
 
-/// The cards of the first draws, out of this many cards, with what is seen of each, or the first draw whose card has no record.
+/// Returns the cards of the first draws out of this many cards, with what is seen on each, or the first draw whose card has no record.
 pub fn drawn_seen(
     alloc: Global,
     seed: &Seed,

@@ -1,4 +1,4 @@
-// Tests of sessions and rounds of claims that are no assertions: one claim, that the first candidate leads the second.
+// Tests of sessions and rounds of claims that aren't assertions. There is one claim, that the first candidate leads the second.
 ghost use Rattle.std.specs.Prelude.{◌≡◌, ◌≤◌, ◌∷◌, [], length, IfSome};
 ghost use Rattle.irv_base.specs.Records.{is_first};
 ghost use Rattle.irv_base.specs.declared.limits.TheConstants.{MOST_DRAWS};
@@ -79,7 +79,7 @@ fn begun(alloc: Global, l: &Linked) -> Option<Session>
     .ok()
 }
 
-// The next round. The session's cards and margins stay.
+// The next round. The session's cards and margins stay the same.
 fn go_on(
     rt: &HostRuntime,
     session: &mut Session,

@@ -29,7 +29,7 @@ fn desk(alloc: Global, manifest: &str, assertions: &str) -> Result<MemoryDesk, A
     )
 }
 
-// It is an answer with this text.
+// Whether it is an answer with this text.
 fn is_done(said: &Result<Answer, Refusal>, text: &str) -> bool {
     match said {
         Ok(answer) => {
@@ -39,7 +39,7 @@ fn is_done(said: &Result<Answer, Refusal>, text: &str) -> bool {
     }
 }
 
-// A file is refused with this line.
+// Whether a file is refused with this line.
 fn is_refused(said: &Result<Answer, Refusal>, text: &str) -> bool {
     match said {
         Err(Refusal::Line(RefusalKind::Input, line)) => line.as_str() == text,

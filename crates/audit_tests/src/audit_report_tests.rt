@@ -1,4 +1,4 @@
-// Tests of `audit_report`: the texts of small audits, byte for byte. The expected ones are those of `acceptance/plain_audit.py`.
+// Tests of `audit_report`: the texts of small audits, byte for byte. The expected texts are those of `acceptance/plain_audit.py`.
 use crate::one_card::{MANIFEST, some_digests};
 use assertion_file::read_file;
 use audit_report::{plan_table, sample_table, session_table};

@@ -52,7 +52,7 @@ fn begun(rt: &HostRuntime, linked: &Linked, file: &AssertionFile) -> Option<Sess
     .ok()
 }
 
-// The next round. The session's cards and margins stay.
+// The next round. The session's cards and margins stay the same.
 fn go_on(
     rt: &HostRuntime,
     session: &mut Session,

@@ -1,4 +1,5 @@
-// Tests of `contest_set`: contests on a single card, which is drawn again and again. The risks are from outside: worked out in Python.
+// Tests of `contest_set`: contests on a single card, which is drawn again and again. The risks come from outside: they were worked out in
+// Python.
 ghost use Rattle.std.specs.Prelude.{◌≤◌, IfSome, IsTrue, length};
 ghost use Rattle.irv_base.specs.Names.{all_differ};
 ghost use Rattle.irv_base.specs.declared.limits.TheConstants.{MOST_WORKERS};
@@ -25,10 +26,10 @@ const BALLOTS: &str = "2\nContest,7,2,1,2\nContest,8,2,1,2\n7,b_1,1\n8,b_1,2\n";
 
 const SEEN: &str = "b_1,7,ballot,1\nb_1,8,missing\n";
 
-// Turns for which a contest waits for another.
+// The number of turns for which a contest waits for another.
 const PATIENCE: u32 = 100_000_000;
 
-// The contests of a ballot file, if it is read.
+// The contests of a ballot file, if it can be read.
 fn contests(alloc: Global, ballots: &str) -> Option<Vec<Ballots>>
     ensures differ { IfSome result (λ list. IsTrue (all_differ (contest_ids list.items))) }
     ensures few { IfSome result (λ list. length list.items ≤ MOST_CONTESTS) }
@@ -39,7 +40,7 @@ fn contests(alloc: Global, ballots: &str) -> Option<Vec<Ballots>>
     }
 }
 
-// How the contests end, at five draws, a limit of 5 percent and gamma 0.1, if the files are read.
+// How the contests end, at five draws, a limit of 5 percent and gamma 0.1, if the files can be read.
 fn ends<R: AllocGlobal + Threads + Sync, G: Gate + Sync>(
     rt: &R,
     ballots: &str,
@@ -71,7 +72,7 @@ fn seen_fault(alloc: Global, seen: &str) -> Option<SeenFault> {
     read_seen_by(alloc, seen.as_bytes(), &manifest, &list).err()
 }
 
-// The contest is won by this candidate, by one vote, and its only claim has these counts and this risk.
+// Whether this candidate wins the contest, by one vote, and its only claim has these counts and this risk.
 fn is_audited(end: &ContestEnd, won: Candidate, of: Counts, risk: u64, off: bool) -> bool {
     match end {
         ContestEnd::Audited {
@@ -91,7 +92,7 @@ fn is_audited(end: &ContestEnd, won: Candidate, of: Counts, risk: u64, off: bool
     }
 }
 
-// The first candidate has won the first contest, and each draw found the card as it is recorded.
+// The first candidate won the first contest, and each draw found the card as recorded.
 fn is_first(end: &ContestEnd) -> bool {
     let clean = Counts {
         n2: 5,
@@ -100,7 +101,7 @@ fn is_first(end: &ContestEnd) -> bool {
     is_audited(end, Candidate(0), clean, 48_282_842_081_079_907, true)
 }
 
-// The second candidate has won the other contest, and each draw missed the card.
+// The second candidate won the other contest, and each draw missed the card.
 fn is_second(end: &ContestEnd) -> bool {
     let missing = Counts {
         n0: 5,
@@ -109,7 +110,7 @@ fn is_second(end: &ContestEnd) -> bool {
     is_audited(end, Candidate(1), missing, 1_000_000_000_000_000_000, false)
 }
 
-// Both end so.
+// Both contests end this way.
 fn are_both(ends: &[ContestEnd]) -> bool {
     match ends {
         [first, second] => is_first(first) && is_second(second),
@@ -189,7 +190,7 @@ fn the_first_contest_without_a_record_is_told(rt: HostRuntime) {
     }
 }
 
-/// Holds the first contest up until the second took a piece, for at most this many turns.
+/// Holds up the first contest until the second takes a piece, for at most this many turns.
 #[derive(Drop)]
 struct Held {
     turns: u32,

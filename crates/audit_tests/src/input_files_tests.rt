@@ -27,12 +27,12 @@ fn manifest(alloc: Global) -> Result<Manifest, Refusal> {
     manifest_in(alloc, &named(alloc, "manifest")?, MANIFEST.as_bytes())
 }
 
-// How many candidates there are.
+// The number of candidates.
 fn candidates(alloc: Global) -> Result<usize, Refusal> {
     Ok(ballots(alloc)?.candidates().len())
 }
 
-// How many cards there are, to which the ballots are linked.
+// The number of cards to which the ballots are linked.
 fn cards(alloc: Global) -> Result<u32, Refusal> {
     let ballots = ballots(alloc)?;
     let file = named(alloc, "ballots")?;
@@ -41,7 +41,7 @@ fn cards(alloc: Global) -> Result<u32, Refusal> {
     Ok(cards.manifest.cards())
 }
 
-// How many claims there are.
+// The number of claims.
 fn claims(alloc: Global) -> Result<usize, Refusal> {
     let name = named(alloc, "assertions")?;
     Ok(

@@ -1,4 +1,5 @@
-// Tests of `km_risk`, by values from outside: worked by hand, and the tables that bench/risk_values.py works out with exact fractions.
+// Tests of `km_risk` with values from outside: those worked out by hand, and the tables that bench/risk_values.py works out with exact
+// fractions.
 ghost use Rattle.std.specs.Prelude.{◌≡◌};
 
 use irv_base::{GREATEST_GAMMA, GREATEST_LIMIT, MOST_CARDS, MOST_DRAWS};
@@ -25,7 +26,7 @@ fn one_draw_of_twelve_cards(rt: HostRuntime) {
         524_714_828_897_338_404
     );
     assert_eq!(rt; risk(&counts(1, 0, 0, 0, 0), 12, 1, 100), whole);
-    // The factors are 6 and 138/263: the cap comes after both.
+    // The factors are 6 and 138/263. The cap comes after both.
     assert_eq!(rt; risk(&counts(1, 0, 0, 0, 1), 12, 1, 100), whole);
 }
 
@@ -182,7 +183,7 @@ const RISKS: &str = "\
 0 3 7 1 0 99955 24989 14 1000000000000000000
 ";
 
-// Cards, margin, gamma, the limit in millionths, and the clean draws, or none.
+// Cards, margin, gamma, the limit in millionths, and the number of clean draws, or none.
 const CLEAN_DRAWS: &str = "\
 1000 100 100 50000 70
 1000 1000 100 50000 5

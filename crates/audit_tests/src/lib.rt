@@ -1,5 +1,5 @@
-//! Tests of the crates of an audit, from the risk and the draws up to the commands: small audits and tables of values from outside,
-//! asked by public calls. Each module of tests is named after the crate that it tests.
+//! Tests of the crates of an audit, from the risk and the draws up to the commands. They check small audits and tables of values from
+//! outside through public calls. Each module of tests is named after the crate that it tests.
 #![tactic(auto)]
 
 #[cfg(test)]

@@ -1,5 +1,5 @@
-// Tests of `poll_command`: polls of a single card, and of assertions that don't prove their winner. The risks are from outside: worked
-// out in Python. The rest is worked out by hand.
+// Tests of `poll_command`: polls of a single card, and of assertions that don't prove their winner. The risks come from outside: they were
+// worked out in Python. The rest is worked out by hand.
 ghost use Rattle.irv_base.specs.declared.limits.TheConstants.{MOST_DRAWS};
 ghost use Rattle.command.specs.Limits.{IsUpTo};
 ghost use Rattle.budget.specs.declared.limits.TheConstants.{MOST_NODES};
@@ -13,7 +13,7 @@ use sampler::Seed;
 
 const SEEN: &str = "b_1,ballot,1\n";
 
-// The first of three candidates is before the second alone: 2,1,3 stands, and for the third candidate the suffixes 3 and 1,3 count.
+// The first of three candidates is before only the second: nothing refutes 2,1,3, and for the third candidate the suffixes 3 and 1,3 count.
 const ONE_OF_TWO: &str =
     "{\"assertions\":[{\"kind\":\"NEB\",\"loser\":\"2\",\"margin\":1,\"winner\":\"1\"}],\"candidates\":[\"1\",\"2\",\"3\"],\"contest\":\"7\",\"margin\":1,\"order\":[\"2\",\"1\",\"3\"],\"records\":1,\"version\":1,\"winner\":\"1\"}\n";
 
@@ -34,7 +34,7 @@ struct Files {
     seen: &'static str,
 }
 
-// A single card, of which this is seen.
+// A single card, for which this is seen.
 fn seen_as(seen: &'static str) -> Files {
     Files {
         manifest: MANIFEST,
@@ -81,7 +81,7 @@ fn polled(rt: &HostRuntime, files: &Files, draws: u32, nodes: u32) -> Result<Ans
     poll::answer(alloc, &mut desk, &task)
 }
 
-// It is an answer of this kind, with this text.
+// Whether it is an answer of this kind, with this text.
 fn is(said: &Result<Answer, Refusal>, kind: AnswerKind, text: &str) -> bool {
     match said {
         Ok(answer) => answer.kind == kind && answer.text.as_slice() == text.as_bytes(),
@@ -89,7 +89,7 @@ fn is(said: &Result<Answer, Refusal>, kind: AnswerKind, text: &str) -> bool {
     }
 }
 
-// A file is refused with this line.
+// Whether a file is refused with this line.
 fn is_refused(said: &Result<Answer, Refusal>, text: &str) -> bool {
     match said {
         Err(Refusal::Line(RefusalKind::Input, line)) => line.as_str() == text,

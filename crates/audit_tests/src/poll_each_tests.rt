@@ -1,5 +1,5 @@
-// Tests of `poll_command` where a poll looks at each draw: polls of a single card, and of assertions that don't prove their winner. The risks
-// are from outside: worked out in Python. The rest is worked out by hand.
+// Tests of `poll_command` when a poll looks at each draw: polls of a single card, and of assertions that don't prove their winner. The risks
+// come from outside: they were worked out in Python. The rest is worked out by hand.
 ghost use Rattle.std.specs.Prelude.{IfSome};
 ghost use Rattle.irv_base.specs.declared.limits.TheConstants.{MOST_DRAWS};
 ghost use Rattle.command.specs.Limits.{IsUpTo};
@@ -15,7 +15,7 @@ use sampler::Seed;
 const FOUR_DRAWS: &str =
     "contest 7\nwinner 1\ncards 1\ndraws 4\nlimit 50000\ngamma 100\nseed 2024\nNEB 1 2 gamma 100 counts 0 0 4 risk 0.088518543815313162 unconfirmed\nconfirmed no\n";
 
-// The fifth draw confirms, so that the other four aren't asked of.
+// The fifth draw confirms, so the other four aren't needed.
 const NINE_DRAWS: &str =
     "contest 7\nwinner 1\ncards 1\ndraws 9\nlimit 50000\ngamma 100\nseed 2024\nNEB 1 2 gamma 100 counts 0 0 5 risk 0.048282842081079907 confirmed 5\nconfirmed yes\n";
 
@@ -27,7 +27,7 @@ const BEST: &str =
 const MISSING: &str =
     "contest 7\nwinner 1\ncards 1\ndraws 20\nlimit 50000\ngamma 100\nseed 2024\nNEB 1 2 gamma 100 counts 20 0 0 risk 1679616.000000000000000000 unconfirmed\nconfirmed no\n";
 
-// A poll of the card, of which this is seen.
+// A poll of the card, for which this is seen.
 fn polled(
     rt: &HostRuntime,
     seen: &'static str,
@@ -62,7 +62,7 @@ fn polled(
     each::answer(alloc, &mut desk, &task)
 }
 
-// It is an answer of this kind, with this text.
+// Whether it is an answer of this kind, with this text.
 fn is(said: &Result<Answer, Refusal>, kind: AnswerKind, text: &str) -> bool {
     match said {
         Ok(answer) => answer.kind == kind && answer.text.as_slice() == text.as_bytes(),

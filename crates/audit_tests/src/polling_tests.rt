@@ -1,4 +1,4 @@
-// Tests of `polling`: the polls of a single card, which is drawn again and again. The risks are from outside: worked out in Python.
+// Tests of `polling`: the polls of a single card, which is drawn again and again. The risks come from outside: they were worked out in Python.
 ghost use Rattle.std.specs.Prelude.{◌≤◌};
 ghost use Rattle.irv_base.specs.declared.limits.TheConstants.{MOST_DRAWS};
 
@@ -9,7 +9,7 @@ use manifest::read_manifest;
 use polling::{PollCounts, PollEnd, PollFault, poll, poll_risk};
 use sampler::Seed;
 
-// The poll of the card at a limit of 5 percent and gamma 0.1, where this is seen of it.
+// The poll of the card at a limit of 5 percent and gamma 0.1, if this is seen of it.
 fn polled(rt: &HostRuntime, seen: &[u8], draws: u32) -> Option<Result<PollEnd, PollFault>>
     requires { draws ≤ MOST_DRAWS }
 {

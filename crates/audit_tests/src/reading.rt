@@ -1,4 +1,4 @@
-// What tests of several crates read: files in memory, and linked cards.
+// What the tests of several crates read: files in memory, and linked cards.
 ghost use Rattle.std.specs.Prelude.{◌≡◌, ◌≤◌, IfOk, length};
 
 use ballot_reader::read_ballots;
@@ -20,7 +20,7 @@ pub(crate) fn desk_of(alloc: Global, files: &[(&str, &str)]) -> Result<MemoryDes
     Ok(MemoryDesk::new(held, Vec::new(alloc)))
 }
 
-/// The cards of a manifest, linked to the ballots of a file, if those are read and each ballot has its card.
+/// The cards of a manifest, linked to the ballots of a file, if both can be read and each ballot has its card.
 pub(crate) fn linked(alloc: Global, manifest: &Manifest, ballots: &str) -> Option<Linked> {
     let Ok(ballots) = read_ballots(alloc, ballots.as_bytes(), None) else {
         return None;

@@ -1,4 +1,4 @@
-// Tests of `sampler`. The expected cards are those of Python's hashlib: `python3 bench/draw_values.py` prints them.
+// Tests of `sampler`. The expected cards come from Python's hashlib: `python3 bench/draw_values.py` prints them.
 ghost use Rattle.std.specs.Prelude.{◌≤◌};
 
 use sampler::{BadSeed, Seed, draw, reduce};

@@ -1,5 +1,4 @@
-// Tests of `session_commands`: the audit of a single card, from its opening on. The digests and the texts are those of Python's
-// hashlib and json.
+// Tests of `session_commands`: the audit of a single card, from its opening. The digests and the texts come from Python's hashlib and json.
 ghost use Rattle.std.specs.Prelude.{◌≤◌};
 ghost use Rattle.irv_base.specs.declared.limits.TheConstants.{MOST_DRAWS};
 
@@ -40,7 +39,7 @@ struct Case {
     seen: &'static str,
 }
 
-// The status that a command ends with, and its text.
+// The status with which a command ends, and its text.
 #[derive(Drop)]
 struct Said {
     status: u8,

@@ -19,7 +19,7 @@ pub const COUNTED_BYTES: usize = 5;
 
 /// The bits that are set on a page.
 ///
-/// To a contract, it is the words of these bits.
+/// In a contract, it is the words of these bits.
 #[derive(Clone, Copy)]
 pub struct Bits([u64; WORDS]);
 

@@ -9,7 +9,7 @@ use std::marker::Model;
 
 /// Ids in order, each once. The time to find one doesn't depend on which ids they are.
 ///
-/// To a contract, it is the list of the ids.
+/// In a contract, it is the list of the ids.
 #[derive(Drop)]
 pub struct Sorted {
     ids: BTreeSet<Vec<u8>>,

@@ -1,4 +1,4 @@
--- A ballot file that is written is read.
+-- A ballot file that is written is read back.
 use Rattle.std.proofs.Common.{◌≡◌, ◌∙◌, ◌∷◌, [], ◌<◌, ◌&&◌, ℕ, zero, suc, true, List, None, length, map, get_or, decimal, codes, refl, ap, arith}
 use Rattle.std.specs.Prelude.{All}
 use Rattle.std.specs.List.{list_all}

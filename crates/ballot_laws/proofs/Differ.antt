@@ -23,7 +23,7 @@ passed rule false rules h = absurd cc
 pub passes : (rule : BRule) (kept : Bool) (rules : List (BRule × Bool)) → kept ≡ true → first_broken rules ≡ None → first_broken ((rule, kept) ∷ rules) ≡ None
 passes rule kept rules t h = ap (λ b. if b then first_broken rules else Some rule) t ∙ h
 
--- ---- ids that differ, of the rows that pass a test
+-- ---- differing ids among the rows that pass a test
 
 module _ (p : Fields → Bool) (f : Fields → Id) where
   abbrev pub own : List Fields → List Id

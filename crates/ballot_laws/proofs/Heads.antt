@@ -129,7 +129,7 @@ judges_contests first before at (word ∷ id ∷ number ∷ ids) =
 
 -- ---- all of them
 
--- what n records come to, of which only so many are there
+-- the result of judging n records, of which only some may be there
 abbrev pub if_all : ℕ → ℕ → ℕ → List Contest → Result (List Contest) (Refusal BRule)
 if_all n there at contests = if nat_lt there n then refused B2 at else Ok contests
 

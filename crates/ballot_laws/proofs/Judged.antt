@@ -1,4 +1,4 @@
--- A record that breaks no rule is a contest, or a ballot, and the other way round.
+-- A record that breaks no rule is a contest or a ballot, and vice versa.
 use Rattle.std.proofs.Common.{◌≡◌, ◌∙◌, ◌++◌, ◌∷◌, [], ◌≤◌, ◌<◌, ◌||◌, ◌&&◌, ℕ, zero, suc, Bool, true, false, not, List, Option, Some, None, length, map, take, drop, nat_le, nat_lt, refl, sym, ap, arith, leb-true, ltb-true, lt-ltb, length-append}
 use Rattle.std.specs.Prelude.{codes}
 use Rattle.std.specs.List.{list_all, slice_get}

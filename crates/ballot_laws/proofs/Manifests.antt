@@ -1,4 +1,4 @@
--- A manifest that is written is read.
+-- A manifest that is written is read back.
 use Rattle.std.proofs.Common.{◌≡◌, ◌∙◌, ◌∷◌, [], ◌+◌, ◌≤◌, ◌<◌, ◌&&◌, ℕ, zero, suc, true, List, Some, length, get_or, nat_le, decimal, codes, refl, ap, arith, leb-true}
 use Rattle.std.specs.List.{list_all, slice_get}
 use Rattle.std.proofs.lemmas.Bool.{and_from, and_parts}

@@ -1,4 +1,4 @@
--- What the reader's grammar comes to, by the records alone.
+-- The outcome of the reader's grammar, in terms of the records only.
 use Rattle.std.proofs.Common.{inl, inr, ◌≡◌, ◌⊎◌, ◌∙◌, ◌∷◌, [], ◌+◌, ◌<◌, ◌≤◌, ◌&&◌, ℕ, Bool, true, false, List, Option, Some, None, Result, Ok, length, map, take, drop, nat_le, nat_lt, refl, sym, ap, arith, lt-ltb, ltb-true, ltb-false}
 use Rattle.std.specs.Prelude.{if◌then◌else◌, option_and_then}
 use Rattle.std.specs.List.{range_with_len}

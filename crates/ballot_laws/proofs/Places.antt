@@ -1,4 +1,4 @@
--- Records by their numbers, and the contest that is asked for.
+-- Records by their numbers, and the requested contest.
 use Rattle.std.proofs.Common.{◌≡◌, ◌∙◌, ◌∷◌, [], ◌+◌, ◌-◌, ◌<◌, ◌≤◌, ℕ, zero, suc, Bool, true, false, not, List, Option, Some, None, length, map, take, drop, get_or, refl, sym, ap, arith}
 use Rattle.std.specs.Prelude.{if◌then◌else◌, filter, option_map, position}
 use Rattle.std.specs.List.{slice_get, range_with_len}
@@ -76,7 +76,7 @@ ballot-record (first ∷ rest) k row h =
     let e : 2 + n + k ≡ 2 + (n + k) = omega arith in
     ap (record_at (first ∷ rest)) e ∙ later-record first rest (n + k) row (sym (dropped n rest k) ∙ h)
 
--- ---- the contest that is asked for
+-- ---- the requested contest
 
 head-there : (first : ℕ) (rows : List Fields) (k : ℕ) (row : Fields) → slice_get rows k ≡ Some row →
     slice_get (numbered head_of first rows) k ≡ Some (head_of (first + k) row)

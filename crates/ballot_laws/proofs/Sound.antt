@@ -1,4 +1,4 @@
--- A ballot file that is read is sound, and all its ids are ids.
+-- A ballot file that is read is sound, and all its ids keep the rule of ids.
 use Rattle.std.proofs.Common.{◌≡◌, ◌∙◌, ◌∷◌, [], ◌+◌, ◌≤◌, ◌<◌, ℕ, suc, Bool, true, List, Option, Some, None, length, map, drop, get_or, refl, sym, ap, arith, inl, inr}
 use Rattle.std.specs.Prelude.{All, IsTrue, filter, is_some}
 use Rattle.std.specs.List.{list_all, range_with_len}

@@ -1,4 +1,4 @@
--- Records that are judged one after the other by those before them.
+-- Records that are judged in order, each by the records before it.
 use Rattle.std.proofs.Common.{◌⊎◌, inl, inr, ◌≡◌, ◌∙◌, ◌++◌, ◌∷◌, [], ◌+◌, ◌<◌, ℕ, zero, suc, List, Option, Some, None, Result, Ok, Err, length, take, refl, sym, ap, arith, length-append, append_assoc, nat_lt, ltb-true, ltb-false}
 use Rattle.std.specs.List.{slice_get}
 use Rattle.std.proofs.lemmas.List.{append-nil}
@@ -18,7 +18,7 @@ pub and_then-same : {A B : Type 0} (at : ℕ) (r : Result A BRule) (f g : A → 
 and_then-same at (Ok a) f g h = h a
 and_then-same at (Err rule) f g h = refl
 
--- what each record says, the first of them having number at
+-- what each record says, where the first record has number at
 abbrev pub numbered : {A : Type 0} → (ℕ → Fields → A) → ℕ → List Fields → List A
 numbered read at [] = []
 numbered read at (row ∷ rows) = read at row ∷ numbered read (at + 1) rows
@@ -135,7 +135,7 @@ module _ {A : Type 0} (judge : List A → ℕ → Fields → Result A BRule) (br
 
 -- ---- all records, from the first one on
 
--- whether one breaks a rule, and what the walk comes to
+-- whether a record breaks a rule, and how the walk ends
 module _ {A : Type 0} (judge : List A → ℕ → Fields → Result A BRule) (broken : List Fields → Fields → Option BRule) (read : ℕ → Fields →
     A) (first : ℕ) (judges : Judges judge broken read) (rows : List Fields) where
   begins : first + 0 ≡ first

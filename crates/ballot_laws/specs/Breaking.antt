@@ -1,4 +1,4 @@
--- Which record of a ballot file breaks a rule first, and which one. Each rule is stated of records alone.
+-- Which record of a ballot file is the first to break a rule, and which rule it breaks. Each rule is stated in terms of records only.
 use Rattle.std.specs.Prelude.{◌≡◌, ◌⊎◌, ◌↔◌, ◌<◌, ℕ, ◌+◌, Bool, true, false, not, ◌&&◌, nat_le, nat_lt, if◌then◌else◌, List, [], ◌∷◌, map, take, drop, length, Option, Some, None, Err, codes}
 use Rattle.std.specs.List.{list_all, slice_get}
 use Rattle.csv_rows.specs.Broken.{IsFirstBroken}
@@ -19,19 +19,19 @@ begins_contest before row =
     nat_le 3 (length row) && is_same (field row 0) (codes "Contest")
     && not (is_among (map contest_id before) (contest_id row))
 
--- a number, and as many ids
+-- a number, and at least that many ids
 abbrev pub lists_candidates : Fields → Bool
 lists_candidates row =
     nat_le 1 (size row) && nat_le (size row) MOST_LISTED
     && nat_le (size row) (length (drop 3 row))
 
--- ids that keep the rule of ids, and no candidate twice
+-- the ids keep the rule of ids, and no candidate is listed twice
 abbrev pub names_candidates : Fields → Bool
 names_candidates row =
     is_name (contest_id row) && list_all is_name (candidates_in row)
     && all_differ (candidates_in row)
 
--- the rules in the order in which they are judged; with each, whether it is kept
+-- the rules in the order in which they are judged, each with whether it is kept
 abbrev pub contest_rules : List Fields → Fields → List (BRule × Bool)
 contest_rules before row =
     (B2, begins_contest before row)
@@ -65,7 +65,7 @@ ballot_rule contests before row = first_broken (ballot_rules contests before row
 
 -- ---- the first record that breaks one
 
--- none of the rows breaks a rule, if this is the rule that one breaks after others
+-- no row breaks a rule, given the function that says which rule a row breaks after the rows before it
 abbrev pub AreUnbroken : (List Fields → Fields → Option BRule) → List Fields → Type 0
 AreUnbroken broken rows =
     (k : ℕ) (row : Fields) → slice_get rows k ≡ Some row → broken (take k rows) row ≡ None
@@ -77,7 +77,7 @@ has_auditable_size row =
     nat_le FEWEST_CANDIDATES (length (candidates_in row))
     && nat_le (length (candidates_in row)) MOST_CANDIDATES
 
--- there is none, or the one in that record is too small or too large
+-- there is no such contest, or the one in that record is too small or too large
 abbrev pub choice_refused : List Fields → Option ℕ → Option (BRule × ℕ)
 choice_refused rows None = Some (B5, 1)
 choice_refused rows (Some own) =
@@ -91,7 +91,7 @@ pub record HasContests (rows : List Fields) : Type 0 where
   pub all_there : length (contests rows) ≡ count rows
   pub unbroken : AreUnbroken contest_rule (contests rows)
 
--- the first record has no number of contests
+-- the first record doesn't give the number of contests
 pub record IsUncounted (rows : List Fields) (rule : BRule) (at : ℕ) : Type 0 where
   pub uncounted : is_counted rows ≡ false
   pub rule_is : rule ≡ B1
@@ -104,7 +104,7 @@ pub record BreaksContest (rows : List Fields) (rule : BRule) (at : ℕ) : Type 0
   pub first : IsFirstBroken contest_rule (contests rows) k rule
   pub at_is : at ≡ 2 + k
 
--- the file ends too early: at the record after its last
+-- the file ends too early; it is refused at the record after its last
 pub record LacksContest (rows : List Fields) (rule : BRule) (at : ℕ) : Type 0 where
   pub counted : is_counted rows ≡ true
   pub unbroken : AreUnbroken contest_rule (contests rows)
@@ -112,7 +112,7 @@ pub record LacksContest (rows : List Fields) (rule : BRule) (at : ℕ) : Type 0 
   pub rule_is : rule ≡ B2
   pub at_is : at ≡ length rows + 1
 
--- no ballot is judged before the contest is
+-- the contest is judged before any ballot
 pub record BreaksChoice
     (asked : Option Id) (rows : List Fields) (rule : BRule) (at : ℕ) : Type 0 where
   pub has : HasContests rows

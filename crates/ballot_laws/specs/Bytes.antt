@@ -1,4 +1,4 @@
--- Bytes that are read as these records: the laws of records, said of bytes.
+-- Bytes that are read as given records: the laws of records, restated for bytes.
 use Rattle.std.specs.Prelude.{◌≡◌, ◌↔◌, ◌<◌, ℕ, Bool, not, ◌&&◌, nat_le, List, [], ◌∷◌, ◌++◌, length, Option, None, Ok, Err, All, IsTrue}
 use Rattle.std.specs.List.{list_all}
 use Rattle.csv.specs.Writing.{default_writer, row_text}
@@ -37,7 +37,7 @@ abbrev pub is_plain_record : Fields → Bool
 is_plain_record row =
     list_all is_plain row && nat_le 1 (length row) && not (is_blank_record row)
 
--- as the crate csv writes records: a line each, commas between fields, and quotes round a field that needs them
+-- how the crate csv writes records: one line each, commas between fields, and quotes around a field that needs them
 abbrev pub written : List Fields → List ℕ
 written [] = []
 written (row ∷ rows) = row_text default_writer row ++ written rows
@@ -47,13 +47,13 @@ WrittenIsRead =
     (rows : List Fields) → IsTrue (list_all is_plain_record rows) →
     All (λ b. b < 128) (written rows) × (numbered_records (written rows) ≡ rows)
 
--- bytes that are written so are judged as the records are
+-- bytes written this way are judged as the records are
 abbrev pub WrittenIsJudged : Type 0
 WrittenIsJudged =
     (asked : Option Id) (rows : List Fields) → IsTrue (list_all is_plain_record rows) →
     ballots_of (written rows) asked ≡ ballots_from asked rows
 
--- what one contest and its ballots are spelled as, is written so that it is read as them
+-- the records that spell one contest and its ballots are written so that they are read back as that contest and those ballots
 abbrev pub SpellingIsRead : Type 0
 SpellingIsRead =
     (file : BallotFile) → HasSpelling file →

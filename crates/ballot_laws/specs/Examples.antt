@@ -11,7 +11,7 @@ count_of number = number ∷ []
 abbrev pub mayor : Fields
 mayor = codes "Contest" ∷ codes "mayor" ∷ codes "2" ∷ codes "Ash" ∷ codes "Birch" ∷ []
 
--- and three for the board; what follows their ids is passed over
+-- and three run for the board; whatever follows their ids is skipped
 abbrev pub board : Fields
 board =
     codes "Contest" ∷ codes "board" ∷ codes "3" ∷ codes "Cedar" ∷ codes "Elm" ∷ codes "Fir"
@@ -47,11 +47,11 @@ for_board = record {
   rankings = (2 ∷ 0 ∷ []) ∷ [];
 }
 
--- with a seventh record
+-- the file with a seventh record
 abbrev pub and_then_comes : Fields → List Fields
 and_then_comes row = two_contests ++ row ∷ []
 
--- one candidate for the board, which is too few; nobody voted
+-- there is one candidate for the board, which is too few; nobody voted
 abbrev pub one_too_small : List Fields
 one_too_small =
     count_of (codes "2") ∷ mayor

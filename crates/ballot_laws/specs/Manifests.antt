@@ -1,4 +1,4 @@
--- The laws of a manifest's records, said of bytes.
+-- The laws of a manifest's records, restated for bytes.
 use Rattle.std.specs.Prelude.{◌≡◌, ◌↔◌, ◌≤◌, ◌<◌, ℕ, List, [], ◌∷◌, length, Ok, Err, All, codes, decimal}
 use Rattle.csv_rows.specs.Fields.{numbered_records}
 use Rattle.csv_rows.specs.Rows.{Fields}

@@ -6,7 +6,7 @@ use Rattle.irv_base.specs.Names.{Id, is_name}
 use Rattle.ballots.specs.Ballots.{BallotFile, IsSound}
 use Rattle.ballots.specs.Grammar.{ballots_from}
 
--- the contest, candidates and ballots of a file have ids that keep the rule of ids
+-- the ids of a file's contest, candidates and ballots keep the rule of ids
 pub record IsNamed (file : BallotFile) : Type 0 where
   pub contest : IsTrue (is_name file.contest)
   pub candidates : IsTrue (list_all is_name file.candidates)

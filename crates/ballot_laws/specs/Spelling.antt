@@ -14,7 +14,7 @@ use Rattle.ballot_laws.specs.Rows.{record_at, field, contest_id, candidates_in, 
 
 -- ---- contests
 
--- the word, its id, the number of its candidates, their ids, and whatever follows
+-- the word, the contest's id, the number of its candidates, their ids, and whatever follows
 pub record IsContest (row : Fields) (id : Id) (candidates : List Id) : Type 0 where
   pub number : List ℕ
   pub more : Fields
@@ -26,7 +26,7 @@ pub record IsContest (row : Fields) (id : Id) (candidates : List Id) : Type 0 wh
   pub all_named : IsTrue (list_all is_name candidates)
   pub differ : IsTrue (all_differ candidates)
 
--- the first record counts them, and no two have one id
+-- the first record counts the contests, and no two of them have the same id
 pub record AreContests (rows : List Fields) : Type 0 where
   pub counted : number_of (field (record_at rows 1) 0) ≡ Some (length (contests rows))
   pub some : 1 ≤ length (contests rows)
@@ -37,14 +37,14 @@ pub record AreContests (rows : List Fields) : Type 0 where
 
 -- ---- ballots
 
--- the preferences name candidates, of which each counts at its first place
+-- the preferences name candidates, and each candidate counts at its first place
 pub record Ranks (candidates : List Id) (preferences : List Id) (ranking : List ℕ) : Type 0 where
   pub choices : List ℕ
   pub below : All (λ c. c < length candidates) choices
   pub named : preferences ≡ map (id_of candidates) choices
   pub first : ranking ≡ firsts choices
 
--- the id of its contest, its own, and preferences
+-- the id of its contest, its own id, and its preferences
 pub record IsBallot
     (row : Fields) (contest : Id) (candidates : List Id) (id : Id) (ranking : List ℕ) : Type 0 where
   pub more : Fields
@@ -60,7 +60,7 @@ pub record IsOfOne (contests : List Fields) (row : Fields) : Type 0 where
   pub ranking : List ℕ
   pub is : IsBallot row (contest_id contest) (candidates_in contest) (ballot_id row) ranking
 
--- not too many, each of some contest, and no id twice in one contest
+-- there are not too many, each is of some contest, and no id occurs twice in one contest
 pub record AreBallotRows (rows : List Fields) : Type 0 where
   pub few : length (ballots rows) ≤ MOST_RECORDS
   pub each : (k : ℕ) (row : Fields) → slice_get (ballots rows) k ≡ Some row →
@@ -70,7 +70,7 @@ pub record AreBallotRows (rows : List Fields) : Type 0 where
 
 -- ---- the file
 
--- the file has the contest in record own, and its ballots, each as its record says
+-- the file has the contest in record own and the ballots of that contest, each as its record says
 pub record Has (rows : List Fields) (own : ℕ) (file : BallotFile) : Type 0 where
   pub contest : file.contest ≡ contest_id (record_at rows own)
   pub candidates : file.candidates ≡ candidates_in (record_at rows own)
@@ -83,7 +83,7 @@ pub record Has (rows : List Fields) (own : ℕ) (file : BallotFile) : Type 0 whe
       IsBallot (record_at rows (slice_index_or file.places i 0)) file.contest file.candidates
       (slice_index_or file.ids i []) (slice_index_or file.rankings i [])
 
--- the contest is the one that is asked for, or the only one if none is
+-- the contest is the requested one, or the only one if none is requested
 pub record Spells (asked : Option Id) (rows : List Fields) (file : BallotFile) : Type 0 where
   pub contests_are : AreContests rows
   pub own : ℕ

@@ -1,4 +1,4 @@
-//! Worked examples: a file of two contests, and for each rule records that break it first.
+//! Worked examples: a file of two contests, and records that break each rule first.
 ghost use Rattle.std.specs.Prelude.{◌≡◌, ◌++◌, List, [], ◌∷◌, length, Some, None, Ok, true, false, codes};
 ghost use Rattle.csv_rows.specs.Rows.{Fields};
 ghost use Rattle.irv_base.specs.declared.limits.TheConstants.{MOST_RECORDS};
@@ -12,7 +12,8 @@ ghost use Rattle.ballot_laws.specs.Spelling.{Spells};
 ghost use Rattle.ballot_laws.specs.Examples.{two_contests, for_mayor, for_board, and_then_comes, one_too_small, nobody_for_mayor};
 ghost use Rattle.ballot_laws.specs.Examples.{count_of, mayor, board, vote};
 
-/// Each contest is spelled, with its own ballots and their records; without one that is asked for the file is refused.
+/// Each contest is spelled, with its own ballots and their records. If the file doesn't have the requested contest, or if none is
+/// requested, it is refused.
 pub fn two_contests_in_a_file()
     ensures mayor { Spells (Some (codes "mayor")) two_contests for_mayor }
     ensures board { Spells (Some (codes "board")) two_contests for_board }
@@ -20,14 +21,15 @@ pub fn two_contests_in_a_file()
     ensures other { IsRefused (Some (codes "sheriff")) two_contests B5 1 }
 {}
 
-/// All contests of a file, in their order, each as it is by its id.
+/// All contests of a file are read in order, each exactly as it is read by its id.
 pub fn all_contests_of_a_file()
     ensures all { contests_from two_contests ≡ Ok (for_mayor ∷ for_board ∷ []) }
     ensures mayor { ballots_from (Some (codes "mayor")) two_contests ≡ Ok for_mayor }
     ensures board { ballots_from (Some (codes "board")) two_contests ≡ Ok for_board }
 {}
 
-/// If one contest has too few candidates, all are refused at its record, before a ballot is judged. The other is read by its id.
+/// If one contest has too few candidates, all contests are refused at its record before any ballot is judged. The other contest can
+/// still be read by its id.
 pub fn one_contest_of_several_is_refused()
     ensures all { contests_from one_too_small ≡ refused B3 3 }
     ensures board { ballots_from (Some (codes "board")) one_too_small ≡ refused B3 3 }
@@ -38,7 +40,7 @@ pub fn one_contest_of_several_is_refused()
         (one_too_small ++ count_of (codes "mayor") ∷ []) ≡ refused B6 4 }
 {}
 
-/// The records of contests: they are counted, each has the word, a new id, and as many candidates as it says.
+/// The records of contests are counted, and each has the word, a new id, and as many candidates as it says.
 pub fn contests()
     ensures empty { IsRefused None [] B1 1 }
     ensures no_number { IsRefused None (mayor ∷ []) B1 1 }
@@ -54,7 +56,7 @@ pub fn contests()
     ensures candidates { candidates_in board ≡ codes "Cedar" ∷ codes "Elm" ∷ codes "Fir" ∷ [] }
 {}
 
-/// The contest that is audited: in the record of the one that is asked for, or of the only one; one candidate is too few.
+/// The audited contest is the requested one, or the only one in the file. One candidate is too few.
 pub fn audited()
     ensures second { asked_place (Some (codes "board")) (mayor ∷ board ∷ []) ≡ Some 3 }
     ensures only { asked_place None (board ∷ []) ≡ Some 2 }
@@ -63,7 +65,7 @@ pub fn audited()
         ∷ (codes "Contest" ∷ codes "mayor" ∷ codes "1" ∷ codes "Ash" ∷ []) ∷ []) B3 2 }
 {}
 
-/// The records of ballots, each after those of `two_contests`: the seventh.
+/// Records of ballots. Each comes after those of `two_contests`, as the seventh.
 pub fn ballots()
     ensures short { IsRefused (Some (codes "mayor")) (and_then_comes (codes "mayor" ∷ [])) B6 7 }
     ensures no_id { IsRefused (Some (codes "mayor"))
@@ -82,13 +84,13 @@ pub fn ballots()
         ≡ codes "Ash" ∷ [] }
 {}
 
-/// A file has up to `MOST_RECORDS` ballots: whatever comes after this many breaks B10 first.
+/// A file has at most `MOST_RECORDS` ballots: whatever comes after that many breaks B10 first.
 pub fn most_ballots()
     ensures { (contests before : List Fields) (row : Fields) →
         length before ≡ MOST_RECORDS → ballot_rule contests before row ≡ Some B10 }
 {}
 
-/// How records are written: a line each, with quotes if a field has some. A blank record has no number.
+/// Records are written one to a line, with quotes around a field that has quotes. A blank record has no number.
 pub fn writing()
     ensures lines { written ((codes "1" ∷ []) ∷ (codes "a b" ∷ [] ∷ codes "\"" ∷ []) ∷ [])
         ≡ codes "1\na b,,\"\"\"\"\n" }

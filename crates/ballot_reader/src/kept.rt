@@ -67,7 +67,7 @@ fn head_of<'r>(contests: &[Contest], fields: &mut Fields<'r>) -> Result<Head<'r>
 
 /// The data kept for ballots: which ids have been met in each contest, the number of ballots, and a part for each contest that is asked for.
 ///
-/// To a contract it is these three.
+/// In a contract, it is these three.
 #[derive(Drop)]
 pub struct Kept {
     /// For each contest, which ids of its ballots have been met.

@@ -15,7 +15,7 @@ use std::marker::Model;
 
 /// Where the ballots of a contest come from.
 ///
-/// To a contract it is the two lists.
+/// In a contract, it is the two lists.
 #[derive(Drop)]
 pub struct Origins {
     /// The id of each ballot.
@@ -55,7 +55,7 @@ impl Origins {
 
 /// The data kept for the ballots of a contest.
 ///
-/// To a contract it is where they come from, the number of candidates for which they are counted (if they are), and their rankings.
+/// In a contract, it is where they come from, the number of candidates for which they are counted (if they are), and their rankings.
 #[derive(Drop)]
 pub struct Part {
     /// Where the ballots come from, if that is kept.

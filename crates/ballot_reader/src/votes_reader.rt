@@ -31,7 +31,7 @@ pub const SIDE_BY_SIDE: usize = 6 << 20;
 /// more than `MOST_OF_CONTESTS` bytes, or if one line, or the lines in one piece together with what waits, have more bytes than `csv_rows`
 /// looks at (`MOST_AT_HAND`). Once a ballot is refused, nothing more is kept.
 ///
-/// To a contract it is the contest that is asked for, the number of bytes of whole lines that may wait for more, the available part of the
+/// In a contract, it is the contest that is asked for, the number of bytes of whole lines that may wait for more, the available part of the
 /// file, and how far the file has been read.
 #[derive(Drop)]
 pub struct VotesReader<'r, R: Threads + Sync> {

@@ -16,7 +16,7 @@ use std::marker::Model;
 /// There are `FEWEST_CANDIDATES` to `MOST_CANDIDATES` candidates, all different, and at most `MOST_RECORDS` ballots, whose ids
 /// are all different. A ranking has candidates of this contest only, each as its place in `candidates`, from 0.
 ///
-/// To a contract it is the record of these lists.
+/// In a contract, it is the record of these lists.
 #[derive(Drop)]
 pub struct Ballots {
     contest: Name,

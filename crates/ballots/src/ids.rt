@@ -10,7 +10,7 @@ const ID_BYTES: usize = 16;
 
 /// A list of ids. It takes up as many bytes as the ids have, plus four for each.
 ///
-/// To a contract it is the list.
+/// In a contract, it is the list.
 #[derive(Drop)]
 pub struct Ids {
     ids: Lists<u8>,

@@ -10,7 +10,7 @@ use std::marker::Model;
 /// Names, each once, in the order they came. They are also kept sorted, and are looked up there, so the author of a file can't pick names
 /// that are slow to find.
 ///
-/// To a contract it is the list of the names.
+/// In a contract, it is the list of the names.
 #[derive(Drop)]
 pub struct Listed {
     names: Vec<Name>,

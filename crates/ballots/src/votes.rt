@@ -18,7 +18,7 @@ use std::thread::Threads;
 /// candidates of this contest, each given by its place in `candidates`, from 0. With up to `set_tallies::ALWAYS_SUMMED` candidates,
 /// rankings may be counted rather than kept.
 ///
-/// To a contract it is what a ballot file says of it, with no ids and no places.
+/// In a contract, it is what a ballot file says of it, with no ids and no places.
 #[derive(Drop)]
 pub struct Votes {
     contest: Name,

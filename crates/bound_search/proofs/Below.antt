@@ -1,4 +1,4 @@
--- Children that are left out since they aren't below the bound: what becomes of the others is what becomes of all.
+-- Children that are left out because they aren't below the bound: what happens to the others is what happens to all.
 use Rattle.std.proofs.Common.{◌≡◌, ◌+◌, ◌≤◌, ◌<◌, ℕ, nat_lt, Bool, true, false, cond, inl, inr, List, [], ◌∷◌, filter, count_by, All, Contains, Option, None, Some, IfSome, subst, lt-ltb, arith}
 use Rattle.std.proofs.lemmas.Bool.{cases_lt}
 use Rattle.std.proofs.lemmas.List.Elements.{All-weaker}

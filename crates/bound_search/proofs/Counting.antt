@@ -1,4 +1,4 @@
--- How many suffixes a front expands.
+-- The number of suffixes that a front expands.
 use Rattle.std.proofs.Common.{◌≡◌, inl, inr, ℕ, zero, suc, ◌+◌, ◌-◌, ◌<◌, ◌≤◌, Bool, true, false, not, ◌&&◌, nat_lt, cond, min, List, [], ◌∷◌, ◌++◌, filter, flat_map, length, count_by, All, Contains, if◌then◌else◌, refl, sym, ap, subst, arith, lt-ltb, ltb-true, length-append, ◌⊎◌}
 use Rattle.std.proofs.lemmas.Bool.{and_parts, and_from, cases_Bool, cases_lt}
 use Rattle.std.proofs.lemmas.List.Sums.{sum_by-append, sum_by-cons, length-filter, count_by-le-length}
@@ -32,7 +32,7 @@ some_counted : {X : Type 0} (p : X → Bool) {x : X} {xs : List X} → Member x 
 some_counted p {x} (here {xs = xs}) t = let e : cond (p x) 1 0 ≡ (let u : ℕ = 1 in u) = ap (λ b. cond b 1 0) t in omega (arith, one_counted p x xs, e)
 some_counted p (there {y = y} {xs = xs} m) t = omega (arith, one_counted p y xs, some_counted p m t)
 
--- lists that differ, each among others that pass, are no more than these
+-- distinct lists, each among others that pass, are at most as many as these
 pub no_more_than : (q : List ℕ → Bool) (xs ys : List (List ℕ)) → ((s : List ℕ) → count_by (is_same s) xs ≤ 1) →
     ((x : List ℕ) → Member x xs → Member x ys × (q x ≡ true)) → length xs ≤ count_by q ys
 no_more_than q [] ys once h = omega arith
@@ -59,7 +59,7 @@ no_more_than q (x ∷ xs) ys once h =
           ]
         ]
 
--- ---- the listed suffixes stand there once each
+-- ---- each listed suffix appears there once
 counted_flat : {X : Type 0} (p : X → Bool) (f : ℕ → List X) (q g : ℕ → Bool) → ((c : ℕ) → count_by p (f c) ≤ cond (q c && g c) 1 0) → (cs : List ℕ) →
     count_by p (flat_map f cs) ≤ count_by g (filter q cs)
 counted_flat p f q g h [] = omega arith
@@ -155,7 +155,7 @@ least_expanded bag records f of piece (done, k) closed =
               absurd (omega (arith, e, up, le, l))
         ]
 
--- an order of the piece below the bound and below the least margin found ends in an open suffix
+-- an order of the piece below both the bound and the smallest margin found ends in an open suffix
 pub orders_stay_open : (bag : Kept) (records : List (List ℕ)) (f : Frontier) → IsOf bag records → IsFront bag f → (s : List ℕ) → is_order bag.n s ≡ true →
     EndsIn s f.piece.list →
     low bag.n records s < f.bound → low bag.n records s < f.least → EndsInOne f.suffixes s
@@ -167,7 +167,7 @@ orders_stay_open bag records f of (done, k) s h inside l m =
       | inr o ↦ o
     ]
 
--- where no open suffix is below the bound, none is
+-- if no open suffix is below the bound, no order of the piece is below both the bound and the smallest margin found
 pub closed_above : (bag : Kept) (records : List (List ℕ)) (f : Frontier) → IsOf bag records → IsFront bag f → IsClosed f → (s : List ℕ) →
     is_order bag.n s ≡ true → EndsIn s f.piece.list →
     (f.bound ≤ low bag.n records s) ⊎ (f.least ≤ low bag.n records s)
@@ -185,10 +185,10 @@ closed_above bag records f of (done, k) closed s h inside =
       ]
     ]
 
--- ---- where a suffix below the limit is left that isn't a whole order, there is one more than were expanded
+-- ---- if a suffix below the limit that isn't a whole order is left, there is one more than were expanded
 module _ (bag : Kept) (records : List (List ℕ)) (done : List (List ℕ)) (limit : ℕ) (f : Frontier) (one : Scored) (of : IsOf bag records)
     (k : IsAfter bag done f) where
-  -- the one that is left ends in an open suffix, itself
+  -- the suffix that is left ends in an open suffix, itself
   left_once : Contains f.suffixes one → (s : List ℕ) → count_by (is_same s) (one.tail.list ∷ done) ≤ 1
   left_once still s =
       elim (cases_Bool (is_same s one.tail.list)) [

@@ -1,4 +1,4 @@
--- The pieces: how their list grows, and that each alternative order ends in one.
+-- The pieces: how their list grows, and that each alternative order ends in one of them.
 use Rattle.std.proofs.Common.{◌≡◌, ◌≢◌, ℕ, zero, suc, ◌+◌, ◌<◌, ◌==◌, Bool, true, false, not, cond, List, [], ◌∷◌, ◌++◌, map, filter, flat_map, length, Some, slice_get, refl, sym, ap, subst, arith, append-nil, append_assoc, ◌∙◌}
 use Rattle.std.proofs.lemmas.Bool.{eqb-false, ne_eqb, not-true, not_from_false}
 use Rattle.std.proofs.lemmas.List.{map-append, map_push}
@@ -30,7 +30,7 @@ others_more c k other = filter_next (λ d. not (d == c)) k ∙ ap (λ b. cond (n
 others_same : (c k : ℕ) → (k == c) ≡ true → others c (k + 1) ≡ others c k
 others_same c k same = filter_next (λ d. not (d == c)) k ∙ ap (λ b. cond (not b) (others c k ++ k ∷ []) (others c k)) same
 
--- those of one candidate, as far as the other is below k
+-- the pieces of one candidate, as far as the other is below k
 abbrev pub electing_below : ℕ → ℕ → ℕ → List Suffix
 electing_below n c k = map (piece_of n) (map (λ d. d ∷ c ∷ []) (others c k))
 
@@ -51,7 +51,7 @@ electing_more n c k start now next end x h other number alone is pushed =
 pub electing_same : (n c k : ℕ) → (k == c) ≡ true → electing_below n c k ≡ electing_below n c (k + 1)
 electing_same n c k same = ap (λ ds. map (piece_of n) (map (λ d. d ∷ c ∷ []) ds)) (sym (others_same c k same))
 
--- all of them, as far as the last candidate is below k
+-- all pieces, as far as the last candidate is below k
 abbrev pub pieces_below : ℕ → ℕ → ℕ → List Suffix
 pieces_below n winner k = map (piece_of n) (flat_map (pieces_electing n) (others winner k))
 
@@ -69,7 +69,7 @@ pieces_more n winner k now next h other added =
 pub pieces_same : (n winner k : ℕ) → (k == winner) ≡ true → pieces_below n winner k ≡ pieces_below n winner (k + 1)
 pieces_same n winner k same = ap (λ cs. map (piece_of n) (flat_map (pieces_electing n) cs)) (sym (others_same winner k same))
 
--- ---- what a piece is
+-- ---- the definition of a piece
 
 -- one of these, by its last two candidates
 pub record IsPiece (n winner : ℕ) (piece : List ℕ) : Type 0 where
@@ -103,7 +103,7 @@ tail_facts n winner k t at =
     member_get (y ∷ ys) zero x at = let same : y ≡ x = cc in subst (λ z. Member z (y ∷ ys)) same here
     member_get (y ∷ ys) (suc i) x at = there (member_get ys i x at)
 
--- ---- each alternative order ends in one
+-- ---- each alternative order ends in a piece
 
 ends_in_two : (n winner c : ℕ) (order : List ℕ) → is_order n order ≡ true → 1 < n → c ≢ winner → Elects order c →
     (piece : List ℕ) × Member piece (pieces n winner) × EndsIn order piece
@@ -131,7 +131,7 @@ place_of : (n : ℕ) {piece : List ℕ} {ps : List (List ℕ)} → Member piece 
 place_of n (here {xs = xs}) = (0, omega arith, refl)
 place_of n (there m) = let (k, low, at) = place_of n m in (suc k, omega (arith, low), at)
 
--- a number of such a piece
+-- the number of such a piece
 pub ends_in_piece : (n winner c : ℕ) (order : List ℕ) → is_order n order ≡ true → 1 < n → c ≢ winner → Elects order c →
     (piece : List ℕ) × EndsIn order piece × (k : ℕ) × (k < length (pieces n winner)) ×
     (slice_get (map (piece_of n) (pieces n winner)) k ≡ Some (piece_of n piece))

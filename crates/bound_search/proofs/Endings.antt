@@ -40,7 +40,7 @@ pub low_in : (n : ℕ) (records : List (List ℕ)) (s t : List ℕ) → is_suffi
 low_in n records s t h (before, same) =
     subst (λ x. low n records t ≤ low n records x) (sym same) (low_of_suffix n records before t (subst Distinct same (suffix_facts n s h).apart))
 
--- a suffix that ends in a whole order is it
+-- a suffix that ends in a whole order is that order
 pub whole_ends : (n : ℕ) (s t : List ℕ) → is_suffix n s ≡ true → EndsIn s t → length t ≡ n → s ≡ t
 whole_ends n s t h (before, same) long = go before same where
   go : (before : List ℕ) → s ≡ before ++ t → s ≡ t

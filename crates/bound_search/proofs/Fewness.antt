@@ -1,4 +1,4 @@
--- The work of a piece is no more than the suffixes that elect its last candidate.
+-- The work of a piece is at most the number of suffixes that elect its last candidate.
 use Rattle.std.proofs.Common.{◌≡◌, ◌≢◌, inl, inr, ℕ, ◌+◌, ◌-◌, ◌<◌, ◌≤◌, Bool, true, false, not, ◌==◌, min, nat_lt, List, [], ◌∷◌, ◌++◌, filter, map, length, count_by, refl, sym, subst, arith, ltb-true, append_assoc, ◌∙◌}
 use Rattle.std.proofs.lemmas.Bool.{and_parts, eqb-false, not-true}
 use Rattle.std.proofs.lemmas.List.Sums.{length-filter, count_by-le-length}

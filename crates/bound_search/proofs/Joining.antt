@@ -1,4 +1,4 @@
--- The ends of the workers, put together one by one.
+-- The ends of the workers, combined one by one.
 use Rattle.std.proofs.Common.{◌≡◌, ◌⊎◌, inl, inr, ℕ, ◌+◌, ◌<◌, ◌≤◌, true, false, List, [], ◌∷◌, ◌++◌, map, sum_by, length, get_or, drop, add-one, min, All, Option, None, Some, refl, sym, ap, ap₂, subst, arith, append-nil, ◌∙◌}
 use Rattle.std.specs.Option.{MatchOption, option_map_or}
 use Rattle.std.proofs.Math.Seq.{drop-cons}
@@ -27,7 +27,7 @@ use Rattle.bound_search.proofs.Racing.{closed_lower}
 use Rattle.bound_search.proofs.Reporting.{reports-more}
 use Rattle.bound_search.proofs.Sharing.{none_skipped}
 
--- the next of a list that is gone through
+-- the next element of a list that is gone through
 pub drop_next : {A : Type 0} (xs : List A) (i : ℕ) (x : A) → i < length xs → x ≡ get_or xs i x → drop i xs ≡ x ∷ drop (i + 1) xs
 drop_next xs i x inside is = rw add-one (drop-cons xs i x inside) ∙ ap (λ y. y ∷ drop (i + 1) xs) (sym is)
 
@@ -94,7 +94,7 @@ module _ (bag : Kept) (nodes : ℕ) (tails : List Suffix) (race : SharedRace) (s
       (λ p m. (All-contains (IsEntry bag first nodes (length j.reports.items) tails) e.ends.items p end.entries (contains-from_member m)).worker_is)
       was.reports told expanded
 
-  -- what no seat of these saw less than, none of the former did, nor this one
+  -- if no seat of these saw less than the bound, neither did any of the earlier seats, nor this one
   seats_before : (bound : ℕ) → All (λ s. bound ≤ s.view.seen) k.seats.items → All (λ s. bound ≤ s.view.seen) j.seats.items × (bound ≤ w.seat.view.seen)
   seats_before bound all = All-pop (λ (s : Seated). bound ≤ s.view.seen) k.seats.items j.seats.items (Some w.seat) seats all
 
@@ -139,7 +139,7 @@ module _ (bag : Kept) (nodes : ℕ) (tails : List Suffix) (race : SharedRace) (s
     spent = spent_now;
   }
 
--- ---- the next of the team
+-- ---- the next worker of the team
 middle : {X : Type 0} (before rest : List X) (x d : X) → get_or (before ++ x ∷ rest) (length before) d ≡ x
 middle [] rest x d = refl
 middle (y ∷ before) rest x d = middle before rest x d

@@ -1,4 +1,4 @@
--- What a front keeps, as suffixes are expanded, orders taken and bounds lowered.
+-- The invariant of a front, as suffixes are expanded, orders are taken, and bounds are lowered.
 use Rattle.std.proofs.Common.{◌≡◌, ◌⊎◌, inl, inr, ℕ, ◌+◌, ◌<◌, ◌≤◌, Bool, true, false, ◌==◌, List, [], ◌∷◌, ◌++◌, map, length, count_by, All, Contains, Option, Some, None, IfSome, get_or, slice_get, min, refl, sym, ap, subst, arith, le_trans, length-append, eq-eqb, ◌∙◌}
 use Rattle.std.specs.BinaryHeap.{IsUpperBound}
 use Rattle.std.specs.List.Sorted.{IsPermutation}
@@ -38,7 +38,7 @@ open_found bag piece o h long = record {
 pub ends_in_itself : (open_ones : List Scored) (o : Scored) → Contains open_ones o → EndsInOne open_ones o.tail.list
 ends_in_itself open_ones o h = (o, h, ([], refl))
 
--- ---- one suffix is taken from a front
+-- ---- one suffix is removed from a front
 module _ (bag : Kept) (done : List (List ℕ)) (f : Frontier) (t : Scored) (rest : List Scored) (k : IsAfter bag done f)
     (taken : IsPermutation f.suffixes (t ∷ rest)) where
   top_contained : Contains f.suffixes t
@@ -48,7 +48,7 @@ module _ (bag : Kept) (done : List (List ℕ)) (f : Frontier) (t : Scored) (rest
   pub top_open : IsOpen bag f.piece.list t
   top_open = All-contains (IsOpen bag f.piece.list) f.suffixes t k.each top_contained
 
-  -- an open one is in the rest, or the one taken
+  -- an open suffix is in the rest, or is the one removed
   open_cases : (o : Scored) → Contains f.suffixes o → Contains rest o ⊎ (t ≡ o)
   open_cases o h =
       elim (Contains-append_cases (t ∷ []) rest o (Contains-permutation f.suffixes (t ∷ rest) o taken h)) [
@@ -65,7 +65,7 @@ module _ (bag : Kept) (done : List (List ℕ)) (f : Frontier) (t : Scored) (rest
   rest_from_open : All (λ o. EndsInOne f.suffixes o.tail.list) rest
   rest_from_open = all_from_contained (λ o. EndsInOne f.suffixes o.tail.list) rest (λ o h. ends_in_itself f.suffixes o (rest_open o h))
 
-  -- ---- and expanded
+  -- ---- it is expanded
   module _ (short : length t.tail.list < bag.n) (fresh new cs : List Scored) (found : Option Scored) (joined : IsPermutation (rest ++ fresh) new)
       (are : map (λ s. s.tail) cs ≡ children t.tail) (scored : All (IsScoredOver bag) cs) (each : (x : Scored) → Contains cs x → IsPlaced f.bound fresh found x)
       (stays : All (IsOpenChild cs f.bound) fresh) (few : (p : Scored → Bool) → count_by p fresh ≤ count_by p cs) where
@@ -183,7 +183,7 @@ module _ (bag : Kept) (done : List (List ℕ)) (f : Frontier) (t : Scored) (rest
         let s = child_open o h.one in
         (eq-eqb (length o.tail.list) o.tail.n h.whole, open_found bag f.piece.list o s (h.whole ∙ s.contest), child_from o h.one, h.below)
 
-  -- ---- or is a whole order
+  -- ---- or it is a whole order
   no_more : length t.tail.list ≡ bag.n → (o : Scored) → Contains rest o → ⊥
   no_more whole o h =
       let alone : f.suffixes ≡ t ∷ [] = k.alone t top_contained whole in
@@ -283,7 +283,7 @@ first_contained (x ∷ xs) t e = (0, omega arith, (let same : x ≡ t = cc in sa
 some_same : (o : Option Scored) (a b : Scored) → o ≡ Some a → o ≡ Some b → a ≡ b
 some_same o a b e e' = cc
 
--- what a heap has first is the first
+-- the first element of a heap is the first suffix
 pub first_of_heap : (items : List Scored) (x : Scored) → 0 < length items → x ≡ get_or items 0 x → IsUpperBound first_is_greatest x items → IsFirstOf x items
 first_of_heap items x some e bound = record { inside = (0, some, sym e); least = go items bound } where
   go : (ys : List Scored) → IsUpperBound first_is_greatest x ys →

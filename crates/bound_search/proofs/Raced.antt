@@ -69,7 +69,7 @@ get_at_seam (x ∷ pre) t ts = get_at_seam pre t ts
 pub some_one : (o : Option Suffix) (a b : Suffix) → o ≡ Some a → o ≡ Some b → a ≡ b
 some_one o a b e e' = cc
 
--- entries in the order of the pieces have their suffixes
+-- entries in the order of the pieces have the suffixes of the pieces
 tails_in_order : (pre tails : List Suffix) (ps : List PieceEnd) → numbers ps ≡ range_with_len (length pre) (length tails) →
     All (λ p. slice_get (pre ++ tails) p.piece ≡ Some p.tail) ps → map (λ p. p.tail) ps ≡ tails
 tails_in_order pre [] [] same all = refl
@@ -125,7 +125,7 @@ all_searched bag records winner best end same_margin same_order of below two rea
       hardness = ap (low bag.n records) same_order ∙ reached.hardness records of ∙ sym same_margin;
     }
 
--- there is a piece
+-- there is at least one piece
 pub some_pieces : (bag : Kept) (winner : ℕ) (first : Best) (tails : List Suffix) → 1 < bag.n → IsReached bag winner first → tails ≡ tails_are bag.n winner →
     1 ≤ length tails
 some_pieces bag winner first tails two reached tails_is =
@@ -151,13 +151,13 @@ start_for bag tab tallies moved n start same kept n_is fewest reached order tail
       first = λ records of. sym (own.hardness records of) ∙ ap (low bag.n records) order;
     }
 
--- the start order, or one that was found
+-- the start order, or an order that was found
 pub joined_reached : (bag : Kept) (winner : ℕ) (start best : Best) (tails : List Suffix) → tails ≡ tails_are bag.n winner → IsReached bag winner start →
     (best ≡ start) ⊎ IsFoundIn bag tails best → IsReached bag winner best
 joined_reached bag winner start best tails is reached (inl same) = subst (IsReached bag winner) (sym same) reached
 joined_reached bag winner start best tails is reached (inr found) = found_reached bag winner best (subst (λ ts. IsFoundIn bag ts best) is found)
 
--- what a slice of the whole team leaves of it
+-- a slice as long as the whole team is that team
 pub whole_team : {A : Type 0} (n : ℕ) (xs ys : List A) → length xs ≡ n → take n (xs ++ ys) ≡ xs
 whole_team n xs ys len = ap (λ k. take k (xs ++ ys)) (sym len) ∙ take-append_seam xs ys
 
@@ -168,7 +168,7 @@ few_ends bag nodes tails race number w few ran =
     (λ e h. let took = ap length h.took in let mapped = length-map e.ends.items (λ (p : PieceEnd). p.piece) in let le = h.few in
     omega (arith, few, le, took, mapped)) ran.end
 
--- the team that ran, and that nobody has more ends than there are pieces
+-- the team that ran, none of whose workers has more ends than there are pieces
 pub few_of_all : (bag : Kept) (nodes : ℕ) (tails : List Suffix) (race : SharedRace) (team : List Worker) → length tails ≤ MOST_PIECES →
     TeamRan bag nodes tails race team → All HasFewEnds team
 few_of_all bag nodes tails race team few ran i d low = few_ends bag nodes tails race i (get_or team i d) few (ran i d low)
@@ -195,7 +195,7 @@ closed-at_0 bag p = record {
   least = λ records of. let zero = nothing-below_0 bag.n records (suffixes_of bag.n p.tail.list) in omega (arith, zero);
 }
 
--- ---- what the seats and the bound at the end make of the joined ends
+-- ---- what follows from the joined ends, the seats, and the bound at the end
 
 module _ (bag : Kept) (nodes workers bound : ℕ) (tails : List Suffix) (race : SharedRace) (start : Best) (j : Joined) (r : Raced)
     (joined : IsJoined bag nodes tails race start j)
@@ -214,7 +214,7 @@ module _ (bag : Kept) (nodes workers bound : ℕ) (tails : List Suffix) (race : 
       (λ p h. subst (λ b. IsClosedEntry bag b p) (sym margin_is) (h bound seen)) j.ends.items all
   closed_of (Some piece) costly = subst (λ f. IsCostly bag f nodes tails piece) first costly
 
-  -- at 0 a piece that was left open says nothing less
+  -- at 0, a piece that was left open says nothing less
   above_0 : (b : Bool) → (j.best.margin == 0) ≡ b →
       MatchOption (cond b None j.spent) (All (IsClosedEntry bag j.best.margin) j.ends.items) (λ p. (1 ≤ j.best.margin) × IsCostly bag start.margin nodes tails p)
   above_0 true zero = λ k d low.
@@ -241,7 +241,7 @@ module _ (bag : Kept) (nodes workers bound : ℕ) (tails : List Suffix) (race : 
     spent = above_0 (j.best.margin == 0) refl;
   })
 
--- ---- the budget of a piece was spent, or no piece's was
+-- ---- some piece ran out of budget, or none did
 
 -- above a bound of 0
 pub spent_where : (bag : Kept) (nodes : ℕ) (tails : List Suffix) (workers : ℕ) (start : Best) (r : Raced) → IsRaced bag nodes tails workers start r →

@@ -1,4 +1,4 @@
--- What the turns of one piece come to.
+-- The result of the turns of one piece.
 use Rattle.std.proofs.Common.{◌≡◌, inl, inr, ℕ, ◌+◌, ◌<◌, ◌≤◌, true, nat_lt, List, [], ◌++◌, length, min, All, get_or, sym, ap, subst, arith, le_trans, length-append, lt-ltb, ltb-true, ◌∙◌}
 use Rattle.std.proofs.lemmas.Bool.{and_from, and_parts, cases_lt}
 use Rattle.std.proofs.lemmas.List.{nil_from_length}
@@ -21,7 +21,7 @@ use Rattle.bound_search.proofs.Works.{value_reached}
 use Rattle.bound_search.specs.Fronts.{IsOpen}
 use Rattle.std.proofs.lemmas.List.Elements.{All-contains}
 
--- what holds over the bag of some tallies holds over that of the same ones
+-- what holds over the bag of some tallies holds over the bag of equal tallies
 pub over : (P : Kept → Type 0) {s t : Source} → s ≡ t → P s.bag → P t.bag
 over P e h = subst (λ (x : Source). P x.bag) e h
 
@@ -37,7 +37,7 @@ IsUnder bag first f = (done : List (List ℕ)) × IsAfter bag done f × ((record
 pub under_front : (bag : Kept) (first : ℕ) (f : Frontier) → IsUnder bag first f → IsFront bag f
 under_front bag first f (done, k, below) = (done, k)
 
--- what is below the bound and within the orders of the piece is in its work
+-- a suffix below the bound and within the orders of the piece is in the piece's work
 in_work : (bag : Kept) (records : List (List ℕ)) (first bound : ℕ) (piece s : List ℕ) → is_suffix bag.n piece ≡ true → bound ≤ first →
     low bag.n records s < bound → IsWithin bag records piece s →
     low bag.n records s < work_limit bag.n records first piece
@@ -108,7 +108,7 @@ pub after_more : (bag : Kept) (left : ℕ) (old new : Frontier) (t : Turn) → t
     (new.least ≡ old.least) × (new.expanded ≡ old.expanded + MOST_EXPANDED)
 after_more bag left old new t e h = let h' : IsTurn bag left old new More = subst (IsTurn bag left old new) e h in (h'.0, h'.1)
 
--- one that is left is in the work of the piece, and wasn't expanded
+-- a suffix that is left is in the work of the piece, and wasn't expanded
 pub after_spent : (bag : Kept) (left nodes first : ℕ) (old new : Frontier) (t : Turn) → t ≡ Spent → IsTurn bag left old new t → IsUnder bag first new →
     is_suffix bag.n new.piece.list ≡ true → new.bound ≤ first →
     new.bound ≤ old.least → old.expanded + left ≡ nodes → IsOverBudget bag first nodes new.piece.list

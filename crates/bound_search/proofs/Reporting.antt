@@ -1,4 +1,4 @@
--- How many entries name a worker, and what these expanded, as workers join and as the entries are put in order.
+-- The number of entries that name a worker, and what these expanded, as workers join and as the entries are put in order.
 use Rattle.std.proofs.Common.{◌≡◌, ◌≢◌, inl, inr, ℕ, zero, suc, ◌+◌, ◌<◌, ◌≤◌, ◌==◌, nat_lt, cond, List, [], ◌∷◌, ◌++◌, map, length, sum_by, get_or, refl, sym, ap, subst, arith, eq-eqb, ne_eqb, lt-ltb, le-ltb, add-one, length-append, ◌∙◌}
 use Rattle.std.proofs.lemmas.Bool.{cases_lt, cases_eq}
 use Rattle.std.proofs.lemmas.List.{get_or_append_left}
@@ -34,7 +34,7 @@ ones : (ps : List PieceEnd) → sum_by (λ (p : PieceEnd). 1) ps ≡ length ps
 ones [] = refl
 ones (p ∷ ps) = let e : sum_by (λ (q : PieceEnd). 1) ps ≡ length ps = ones ps in sum_by-cons (λ (q : PieceEnd). 1) p ps ∙ omega arith
 
--- ---- one worker more
+-- ---- one more worker
 module _ (entries more all : List PieceEnd) (reports longer : List Report) (r : Report) (all_is : all ≡ entries ++ more)
     (longer_is : longer ≡ reports ++ r ∷ [])
     (named : (p : PieceEnd) → Member p entries → p.worker < length reports) (own : (p : PieceEnd) → Member p more → p.worker ≡ length reports) where
@@ -89,7 +89,7 @@ times-at k (p ∷ ps) =
     sum_by-cons (λ q. cond (q == k) 1 0) p.piece (map (λ (x : PieceEnd). x.piece) ps) ∙ ap (λ m. cond (p.piece == k) 1 0 + m) (times-at k ps)
     ∙ sym (sum_by-cons (λ (x : PieceEnd). cond (x.piece == k) 1 0) p ps)
 
--- each number below n is once among the candidates
+-- each number below n appears once among the candidates
 pub candidates-once : (n k : ℕ) → times (candidates n) k ≡ cond (nat_lt k n) 1 0
 candidates-once zero k = sym (ap (λ b. cond b 1 0) (le-ltb k 0 (omega arith)))
 candidates-once (suc n) k =

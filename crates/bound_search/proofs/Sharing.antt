@@ -21,7 +21,7 @@ use Rattle.bound_search.specs.declared.piece.Searched.{Searched}
 use Rattle.bound_search.specs.declared.limits.TheConstants.{MOST_EXPANDED}
 use Rattle.bound_search.proofs.Racing.{closed_lower}
 
--- ---- one more in a list
+-- ---- one more element in a list
 
 in_more : (xs : List ℕ) (n p : ℕ) → is_in xs p ≡ true → is_in (xs ++ n ∷ []) p ≡ true
 in_more xs n p h = list_any-append (λ q. q == p) xs (n ∷ []) ∙ or_left (is_in xs p) (is_in (n ∷ []) p) h
@@ -29,7 +29,7 @@ in_more xs n p h = list_any-append (λ q. q == p) xs (n ∷ []) ∙ or_left (is_
 in_last : (xs : List ℕ) (n : ℕ) → is_in (xs ++ n ∷ []) n ≡ true
 in_last xs n = list_any-append (λ q. q == n) xs (n ∷ []) ∙ or_right (is_in xs n) (is_in (n ∷ []) n) (or_left (n == n) false (eq-eqb n n refl))
 
--- one that wasn't there is there once
+-- an element that wasn't there is now there once
 pub once_more : (xs : List ℕ) (n : ℕ) → ((p : ℕ) → times xs p ≤ 1) → not (is_in xs n) ≡ true → (p : ℕ) → times (xs ++ n ∷ []) p ≤ 1
 once_more xs n once out p =
     elim (cases_eq n p) [
@@ -58,12 +58,12 @@ noted false closed spent n p = omega (arith, times-push spent n p)
 open_same : (ends : List PieceEnd) (before after were are : List ℕ) → after ≡ before → are ≡ were → AreLeftOpen ends before were → AreLeftOpen ends after are
 open_same ends before after were are is left so_far = subst (λ xs. AreLeftOpen ends xs are) (sym is) (subst (AreLeftOpen ends before) (sym left) so_far)
 
--- no piece is skipped before one is spent
+-- no piece is skipped before one is out of budget
 pub none_skipped : (ends : List PieceEnd) (spent skipped : List ℕ) → AreLeftOpen ends spent skipped → spent ≡ [] → skipped ≡ []
 none_skipped ends [] skipped so_far none = so_far
 none_skipped ends (number ∷ rest) skipped so_far none = absurd cc
 
--- ---- a piece more
+-- ---- one more piece
 
 module _ (bag : Kept) (first nodes worker : ℕ) (tails : List Suffix) (piece : ℕ) (tail : Suffix) (v t w : View) (spent noted_now : List ℕ) (s : Searched)
     (inside : slice_get tails piece ≡ Some tail) (take : t ≡ record v { taken = v.taken ++ piece ∷ [] }) (skipped : Bool)
@@ -95,7 +95,7 @@ module _ (bag : Kept) (first nodes worker : ℕ) (tails : List Suffix) (piece : 
   pub entry_now : IsEntry bag first nodes worker tails entry
   entry_now = record { tail = inside; worker_is = refl; within = did.within; most = did.most }
 
-  -- what was done with before is, and so is this one
+  -- the pieces that were done with before still are, and so is this one
   still_done : (p : PieceEnd) → IsDoneWith bag v spent p → IsDoneWith bag w noted_now p
   still_done p (inl (closed, at)) =
       inl (subst (λ xs. is_in xs p.piece ≡ true) (sym closed_now) (kept s.closed), closed_lower bag v.seen w.seen p.tail.list p.expanded seen_now at)
@@ -122,7 +122,7 @@ module _ (bag : Kept) (first nodes worker : ℕ) (tails : List Suffix) (piece : 
   done_now ends all = All-push (IsDoneWith bag w noted_now) ends entry (All-weaker (IsDoneWith bag v spent) (IsDoneWith bag w noted_now) still_done ends all)
       this_done
 
-  -- a piece that is spent now wasn't skipped
+  -- a piece that is now out of budget wasn't skipped
   pub costly_now : (before after : List ℕ) → (before ≡ [] → skipped ≡ false) → after ≡ spent_with s.closed before piece →
       All (IsCostly bag first nodes tails) before → All (IsCostly bag first nodes tails) after
   costly_now [] after none_skipped is all = go s.closed refl where
@@ -135,7 +135,7 @@ module _ (bag : Kept) (first nodes worker : ℕ) (tails : List Suffix) (piece : 
     stays true = refl
     stays false = refl
 
-  -- once a piece was spent, the worker skips this one
+  -- once a piece is out of budget, the worker skips this one
   pub open_now : (ends : List PieceEnd) (before after were are : List ℕ) → AreLeftOpen ends before were →
       ((number : ℕ) (rest : List ℕ) → before ≡ number ∷ rest → skipped ≡ true) → (skipped ≡ true → (s.closed ≡ false) × (s.expanded ≡ 0)) →
       after ≡ spent_with s.closed before piece → are ≡ skipped_with s.closed before were piece → AreLeftOpen (ends ++ entry ∷ []) after are
@@ -187,6 +187,6 @@ module _ (bag : Kept) (first nodes worker : ℕ) (tails : List Suffix) (piece : 
     go None same high = omega (arith, same, posted_was, high)
     go (Some b) (f, is, less) high = omega (arith, less, posted_was, high)
 
--- what stands in a list is in it
+-- an element at a place of a list is in the list
 pub contains_got : (tails : List Suffix) (i : ℕ) (t : Suffix) → slice_get tails i ≡ Some t → Contains tails t
 contains_got tails i t at = (i, slice_get_within tails i t at, get_or_from_slice_get tails i t t at)

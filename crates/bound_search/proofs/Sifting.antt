@@ -1,4 +1,4 @@
--- One more child in its place.
+-- One more child, put in its place.
 use Rattle.std.proofs.Common.{◌≡◌, ◌⊎◌, inl, inr, ℕ, ◌<◌, ◌≤◌, List, [], ◌∷◌, ◌++◌, length, All, Contains, Option, Some, None, IfSome, refl, sym, ap, subst, arith, le_trans, ◌+◌, Bool, cond, count_by, ◌==◌, true, false, eqb-true}
 use Rattle.std.specs.BinaryHeap.{IsHeap}
 use Rattle.std.specs.List.Sorted.{IsPermutation}
@@ -11,7 +11,7 @@ use Rattle.suffix_tree.specs.declared.scored.Scored.{Scored}
 use Rattle.suffix_tree.specs.Scores.{first_is_greatest}
 use Rattle.bound_search.specs.Sifted.{IsPlaced, IsFoundWithin, IsOpenChild, IsFoundChild}
 
--- the children that are left, and what became of the others
+-- the children that are left, and what happened to the others
 pub record SiftedSoFar (children : List Scored) (bound : ℕ) (rest fresh : List Scored) (found : Option Scored) : Type 0 where
   pub within : All (Contains children) rest
   pub placed : (x : Scored) → Contains children x → Contains rest x ⊎ IsPlaced bound fresh found x
@@ -30,7 +30,7 @@ pub all_from_contained : {X : Type 0} (P : X → Type 0) (xs : List X) → ((x :
 all_from_contained P xs h = All-weaker (Contains xs) P h xs (All-contains_itself xs)
 
 module _ (children : List Scored) (bound : ℕ) where
-  -- without the last, which has its place
+  -- without the last child, which has its place
   one_less : (rest' rest fresh fresh' : List Scored) (found found' : Option Scored) (x : Scored) → rest ≡ rest' ++ x ∷ [] →
       SiftedSoFar children bound rest fresh found →
       ((y : Scored) → IsPlaced bound fresh found y → IsPlaced bound fresh' found' y) → IsPlaced bound fresh' found' x →
@@ -123,7 +123,7 @@ sifted_start children bound fresh e heap = record {
   counted = λ p. omega (arith, ap (count_by p) e);
 }
 
--- pushed into an empty heap
+-- a suffix pushed into an empty heap
 pub pushed_alone : (x : Scored) (old new : List Scored) → old ≡ [] → IsPermutation (x ∷ old) new → new ≡ x ∷ []
 pushed_alone x old new e p =
     let p' : IsPermutation (x ∷ []) new = subst (λ o. IsPermutation (x ∷ o) new) e p in

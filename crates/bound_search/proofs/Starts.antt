@@ -1,4 +1,4 @@
--- The order that the search starts from, as a suffix that grows from its end.
+-- The order from which the search starts, as a suffix that grows from its end.
 use Rattle.std.proofs.Common.{◌≡◌, inl, inr, ℕ, zero, suc, ◌+◌, ◌-◌, ◌<◌, ◌≤◌, Bool, true, false, cond, ◌==◌, List, [], ◌∷◌, ◌++◌, length, drop, get_or, reverse, Some, None, refl, sym, ap, subst, arith, append_assoc, ◌∙◌}
 use Rattle.std.proofs.lemmas.List.{drop_more, get_or_append_left, get_or-append-add, reverse-append, reverse-reverse}
 use Rattle.std.proofs.Math.Seq.{drop-append_seam}
@@ -60,7 +60,7 @@ module _ (n : ℕ) (order : List ℕ) (two : 1 < n) (h : is_order n order ≡ tr
         ∙ sym (append_assoc ends.before (ends.next ∷ []) (ends.last ∷ [])),
   )).0
 
-  -- the last two
+  -- the last two candidates
   pub first_two : (list : List ℕ) (a b : ℕ) → list ≡ order → a ≡ get_or list (n - 2) a → b ≡ get_or list (n - 2 + 1) b →
       (a < n) × (b < n) × (is_in (a ∷ []) b ≡ false) × (b ∷ a ∷ [] ≡ drop (n - 2) (start_order order))
   first_two list a b same at at' =
@@ -89,7 +89,7 @@ module _ (n : ℕ) (order : List ℕ) (two : 1 < n) (h : is_order n order ≡ tr
   first_below list a same at = (first_two list a (get_or list (n - 2 + 1) 0)
       same at (at_any list (n - 2 + 1) 0 (get_or list (n - 2 + 1) 0) (omega (arith, two, ap length same, (order_facts n order h).long)))).0
 
-  -- the one before a place
+  -- the candidate before a place
   pub next_one : (list : List ℕ) (at c : ℕ) → list ≡ order → 0 < at → at + 2 ≤ n → c ≡ get_or list (at - 1) c →
       (c < n) × (is_in (drop at (start_order order)) c ≡ false) × (c ∷ drop at (start_order order) ≡ drop (at - 1) (start_order order))
   next_one list at c same some within here' =

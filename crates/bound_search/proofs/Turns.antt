@@ -1,4 +1,4 @@
--- What the steps of a turn come to.
+-- The results of the steps of a turn.
 use Rattle.std.proofs.Common.{◌≡◌, inl, inr, ℕ, ◌<◌, ◌≤◌, true, false, ◌==◌, List, [], ◌∷◌, ◌++◌, length, All, Contains, Option, Some, None, Result, Ok, Err, IfOk, slice_get, ◌⊎◌, refl, sym, ap, subst, arith, append-nil, append_assoc, eqb-true, ◌∙◌}
 use Rattle.std.proofs.lemmas.Bool.{eqb-false, cases_lt}
 use Rattle.std.proofs.lemmas.List.Elements.{All-cons, All-nil, All-weaker, All-append, All-contains}
@@ -51,9 +51,9 @@ module _ (bag : Kept) (f f' : Frontier) (bound : ℕ) (le : bound ≤ f.bound) (
     best_first = subst (λ (x : Frontier). AreFirstEach f.suffixes [] x.suffixes) (sym e) none_expanded;
   }
 
--- ---- one more is expanded
+-- ---- one more suffix is expanded
 
--- an order of the piece that is below the bound ends in an open suffix, and the first has a low no greater
+-- an order of the piece that is below the bound ends in an open suffix, and the low of the first suffix is no greater
 one_within : (bag : Kept) (records : List (List ℕ)) (f : Frontier) (one : Scored) → IsOf bag records → IsFront bag f → IsOpen bag f.piece.list one →
     one.low < f.bound → IsFirstOf one f.suffixes →
     f.bound ≤ f.least → IsWithin bag records f.piece.list one.tail.list
@@ -101,7 +101,7 @@ grows_more bag bound start f f' found g same e piece least = λ done k.
       best_first = one_expanded e.one now.best_first e.first e.replaced;
     }
 
--- what ends in an open suffix ends in one that was open at first
+-- a suffix that ends in an open suffix ends in one that was open at first
 pub was_open : (bag : Kept) (bound : ℕ) (start f : Frontier) (s : List ℕ) → IsFront bag start → Grows bag bound start f → EndsInOne f.suffixes s →
     EndsInOne start.suffixes s
 was_open bag bound start f s (done, k) g (p, inside, ends) =
@@ -148,7 +148,7 @@ module _ (bag : Kept) (f f' : Frontier) (order : Scored) (look : IsFirst true f.
   pub taken_found : IsFront bag f → IsFound bag f.piece.list order.tail.list order.low × (order.low < f.bound)
   taken_found (done, k) = (open_found bag f.piece.list order (order_open done k) (order_long done k), first_order.0)
 
--- ---- one below the bound is left
+-- ---- a suffix below the bound is left
 pub part_left : (bag : Kept) (f : Frontier) → IsFront bag f → 0 < length f.suffixes → IsFirst false f.bound (slice_get f.suffixes 0) → IsLeft bag f
 part_left bag f (done, k) some look = go (slice_get f.suffixes 0) refl look where
   go : (o : Option Scored) → slice_get f.suffixes 0 ≡ o → IsFirst false f.bound o → IsLeft bag f

@@ -1,4 +1,4 @@
--- What the steps of a seat make of its view.
+-- How the steps of a seat change its view.
 use Rattle.std.proofs.Common.{◌≡◌, ℕ, ◌+◌, ◌-◌, ◌<◌, ◌≤◌, nat_lt, min, [], ◌∷◌, ◌++◌, ap, ◌∙◌}
 use Rattle.std.proofs.lemmas.Bool.{cond-true, cond-false, lt-ltb, le-ltb}
 use Rattle.shared_witness.specs.declared.view.View.{View}
@@ -9,7 +9,7 @@ pub took_piece : (pieces piece : ℕ) (old new : View) → piece < pieces → ne
     new ≡ record old { taken = old.taken ++ piece ∷ [] }
 took_piece pieces piece old new left takes = takes ∙ cond-true (nat_lt piece pieces) _ _ (lt-ltb piece pieces left)
 
--- a take that found none
+-- a take that found no piece
 pub took_none : (pieces found : ℕ) (old new : View) → pieces ≤ found → new ≡ view_after_take pieces found old →
     new ≡ record old { ends = old.ends + 1; may = old.may - 1 }
 took_none pieces found old new past takes = takes ∙ cond-false (nat_lt found pieces) _ _ (le-ltb found pieces past)

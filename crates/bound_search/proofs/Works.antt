@@ -1,4 +1,4 @@
--- The work of a piece: its value is that of one of its orders.
+-- The work of a piece: its value is the hardness of one of its orders.
 use Rattle.std.proofs.Common.{◌≡◌, ℕ, ◌+◌, ◌-◌, true, List, length, map, arith}
 use Rattle.irv_base.specs.Orders.{is_order, EndsIn}
 use Rattle.irv_base.proofs.Least.{least_is}

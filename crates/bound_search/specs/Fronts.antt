@@ -1,5 +1,5 @@
--- A front: the open suffixes of one piece, and what its turns say. A piece is the suffixes with the same two last candidates. A bag means
--- the records that it is of, whichever they are.
+-- A front: the open suffixes of one piece, and what its turns say. A piece consists of the suffixes with the same last two
+-- candidates. A statement about a bag means the records that the bag is of, whichever they are.
 use Rattle.std.specs.Prelude.{◌≡◌, ◌⊎◌, ℕ, ◌+◌, ◌<◌, ◌≤◌, ◌==◌, true, min, List, [], ◌∷◌, ◌++◌, length, count_by, All, Contains, IsTrue, IsFalse}
 use Rattle.std.specs.List.Sorted.{IsPermutation}
 use Rattle.irv_base.specs.Orders.{is_order, EndsIn}
@@ -21,9 +21,9 @@ pub record Frontier : Type 0 where
   pub suffixes : List Scored
   -- the bound of the last turn
   pub bound : ℕ
-  -- the least margin that was found
+  -- the smallest margin found
   pub least : ℕ
-  -- how many suffixes were expanded
+  -- the number of suffixes expanded
   pub expanded : ℕ
 
 -- a suffix of the piece that isn't a whole order
@@ -39,21 +39,21 @@ pub record IsOpen (bag : Kept) (piece : List ℕ) (o : Scored) : Type 0 where
   pub inside : EndsIn o.tail.list piece
   pub scored : IsScoredOver bag o
 
--- a front that has expanded these suffixes
+-- a front that has expanded exactly these suffixes
 pub record IsAfter (bag : Kept) (done : List (List ℕ)) (f : Frontier) : Type 0 where
   pub contest : f.piece.n ≡ bag.n
   pub count : length done ≡ f.expanded
   pub parts : All (IsPart bag.n f.piece.list) done
   pub each : All (IsOpen bag f.piece.list) f.suffixes
-  -- a whole order is open only alone
+  -- if a whole order is open, nothing else is open
   pub alone : (o : Scored) → Contains f.suffixes o → length o.tail.list ≡ bag.n →
       f.suffixes ≡ o ∷ []
-  -- each suffix of the piece that is below the bound and the least margin found was expanded or ends in an open one
+  -- each suffix of the piece below both the bound and the smallest margin found was expanded or ends in an open suffix
   pub covers : (records : List (List ℕ)) → IsOf bag records → (s : List ℕ) →
       IsTrue (is_suffix bag.n s) → EndsIn s f.piece.list →
       low bag.n records s < f.bound → low bag.n records s < f.least →
       Contains done s ⊎ EndsInOne f.suffixes s
-  -- no suffix was expanded twice, or ends in two open ones, or was expanded and ends in an open one
+  -- no suffix was expanded twice, ends in two open suffixes, or was expanded and ends in an open suffix
   pub once : (s : List ℕ) →
       count_by (is_same s) done + count_by (λ o. ends_in s o.tail.list) f.suffixes ≤ 1
 
@@ -66,20 +66,21 @@ abbrev pub AreBelow : Kept → ℕ → List (List ℕ) → Type 0
 AreBelow bag limit suffixes =
     (records : List (List ℕ)) → IsOf bag records → All (λ s. low bag.n records s < limit) suffixes
 
--- no order of the piece is less hard than the suffix is low
+-- the low of the suffix is at most the hardness of each order of the piece
 abbrev pub IsWithin : Kept → List (List ℕ) → List ℕ → List ℕ → Type 0
 IsWithin bag records piece s =
     (order : List ℕ) → IsTrue (is_order bag.n order) → EndsIn order piece →
     low bag.n records s ≤ low bag.n records order
 
--- no order of the piece is less hard than any of the suffixes is low
+-- the low of each of the suffixes is at most the hardness of each order of the piece
 abbrev pub AreWithin : Kept → List ℕ → List (List ℕ) → Type 0
 AreWithin bag piece suffixes =
     (records : List (List ℕ)) → IsOf bag records → All (IsWithin bag records piece) suffixes
 
 -- ---- best first
 
--- the suffix that goes first: none has a lower low, and none of the same low comes before it, both read backwards
+-- the suffix that comes first: no other has a lower low, and no other with the same low comes before it when both are read
+-- backwards
 pub record IsFirstOf (one : Scored) (suffixes : List Scored) : Type 0 where
   pub inside : Contains suffixes one
   pub least :
@@ -88,28 +89,28 @@ pub record IsFirstOf (one : Scored) (suffixes : List Scored) : Type 0 where
       ⊎ ((one.low ≡ o.low) × IsFalse (comes_before o.tail.list one.tail.list)))
       suffixes
 
--- one suffix was expanded: it has gone, and only children of it came in
+-- one suffix was expanded: it was removed, and only children of it were added
 pub record IsReplaced (one : Scored) (before after : List Scored) : Type 0 where
   pub rest : List Scored
   pub taken : IsPermutation before (one ∷ rest)
   pub left : All (λ o. Contains rest o ⊎ Contains (children one.tail) o.tail) after
 
--- from the suffixes that were open at first these were expanded in turn, each the first of those that were open then; and
--- these are open now
+-- starting from the suffixes that were open at first, these were expanded in order, each of them the first of those open at that
+-- time; and these are open now
 pub data AreFirstEach (start : List Scored) : List (List ℕ) → List Scored → Type 0 where
   none_expanded : AreFirstEach start [] start
   one_expanded : {expanded : List (List ℕ)} {before after : List Scored} (one : Scored) →
       AreFirstEach start expanded before → IsFirstOf one before → IsReplaced one before after →
       AreFirstEach start (expanded ++ one.tail.list ∷ []) after
-  -- a whole order that is found goes
+  -- a whole order that is found is removed
   one_found : {expanded : List (List ℕ)} {before after : List Scored} (order : Scored) →
       AreFirstEach start expanded before → IsPermutation before (order ∷ after) →
       (length order.tail.list == order.tail.n) ≡ true → AreFirstEach start expanded after
 
 -- ---- what a front has done
 
--- what was expanded between two fronts under a bound: each ends in a suffix that was open at first, and is below the bound; each suffix
--- that is open now ends in one that was
+-- what was expanded between two fronts under a bound: each such suffix ends in a suffix that was open at first, and is below the
+-- bound; each suffix that is open now ends in one that was open at first
 pub record HasGrown (bag : Kept) (done : List (List ℕ)) (bound : ℕ) (old new : Frontier)
     : Type 0 where
   pub more : List (List ℕ)
@@ -136,14 +137,14 @@ pub record IsFound (bag : Kept) (piece order : List ℕ) (margin : ℕ) : Type 0
 abbrev pub IsClosed : Frontier → Type 0
 IsClosed f = All (λ o. f.bound ≤ o.low) f.suffixes
 
--- some open suffix is below the bound, and none that is below it is a whole order
+-- some open suffix is below the bound, and no open suffix below it is a whole order
 pub record IsLeft (bag : Kept) (f : Frontier) : Type 0 where
   pub one : Scored
   pub still_open : Contains f.suffixes one
   pub below : one.low < f.bound
   pub parts : (o : Scored) → Contains f.suffixes o → o.low < f.bound → length o.tail.list < bag.n
 
--- what a turn says, by the front before and after it; an order that is found ended in a suffix that was open
+-- what a turn says, in terms of the front before and after it; an order that is found ended in a suffix that was open
 abbrev pub IsTurn : Kept → ℕ → Frontier → Frontier → Turn → Type 0
 IsTurn bag left old new Closed = (new.least ≡ old.least) × IsClosed new
 IsTurn bag left old new (Found order margin) =

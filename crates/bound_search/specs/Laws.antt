@@ -1,4 +1,4 @@
--- What a front says of the orders and the suffixes of its piece.
+-- What a front says about the orders and the suffixes of its piece.
 use Rattle.std.specs.Prelude.{◌⊎◌, ℕ, ◌<◌, ◌≤◌, List, min, IsTrue}
 use Rattle.irv_base.specs.Orders.{is_order, EndsIn}
 use Rattle.assertions.specs.Suffixes.{is_suffix}
@@ -8,7 +8,7 @@ use Rattle.bound_search.specs.Places.{EndsInOne}
 use Rattle.bound_search.specs.Race.{parts_below}
 use Rattle.bound_search.specs.Fronts.{Frontier, IsAfter, IsFront, IsClosed, AreBelow}
 
--- each order of the piece below the bound and below the least margin found ends in an open suffix
+-- each order of the piece below both the bound and the smallest margin found ends in an open suffix
 abbrev pub OrdersStayOpen : Type 0
 OrdersStayOpen =
     (bag : Kept) (records : List (List ℕ)) (f : Frontier) → IsOf bag records → IsFront bag f →
@@ -16,7 +16,7 @@ OrdersStayOpen =
     low bag.n records order < f.bound → low bag.n records order < f.least →
     EndsInOne f.suffixes order
 
--- if no open suffix is below the bound, no order of the piece is below it and below the least margin found
+-- if no open suffix is below the bound, no order of the piece is below both the bound and the smallest margin found
 abbrev pub ClosedAbove : Type 0
 ClosedAbove =
     (bag : Kept) (records : List (List ℕ)) (f : Frontier) → IsOf bag records → IsFront bag f →
@@ -24,14 +24,15 @@ ClosedAbove =
     (order : List ℕ) → IsTrue (is_order bag.n order) → EndsIn order f.piece.list →
     (f.bound ≤ low bag.n records order) ⊎ (f.least ≤ low bag.n records order)
 
--- if each expanded suffix is below the limit, no more were expanded than there are below it
+-- if each expanded suffix is below the limit, the number of expanded suffixes is at most the number below the limit
 abbrev pub MostExpanded : Type 0
 MostExpanded =
     (bag : Kept) (records : List (List ℕ)) (done : List (List ℕ)) (limit : ℕ) (f : Frontier) →
     IsOf bag records → IsAfter bag done f → AreBelow bag limit done →
     f.expanded ≤ parts_below bag.n records limit f.piece.list
 
--- if no open suffix is below the bound, no fewer were expanded than there are below it and below the least margin found
+-- if no open suffix is below the bound, the number of expanded suffixes is at least the number below both the bound and the
+-- smallest margin found
 abbrev pub LeastExpanded : Type 0
 LeastExpanded =
     (bag : Kept) (records : List (List ℕ)) (f : Frontier) → IsOf bag records →

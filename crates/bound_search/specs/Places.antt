@@ -1,4 +1,4 @@
--- The places of suffixes: which other suffixes they end in.
+-- The places of suffixes: the other suffixes in which they end.
 use Rattle.std.specs.Prelude.{ℕ, Bool, ◌||◌, List, [], ◌∷◌, Contains}
 use Rattle.irv_base.specs.Names.{is_same}
 use Rattle.irv_base.specs.Orders.{EndsIn}

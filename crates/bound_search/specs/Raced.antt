@@ -1,4 +1,4 @@
--- What a race starts from, and what a race over given pieces came to.
+-- What a race starts from, and the result of a race over given pieces.
 use Rattle.std.specs.Prelude.{◌≡◌, ◌⊎◌, ℕ, ◌<◌, ◌≤◌, ◌==◌, if◌then◌else◌, List, All, Option, None, length, map}
 use Rattle.std.specs.Option.{MatchOption}
 use Rattle.assertions.specs.Hardness.{first_bound}
@@ -14,7 +14,8 @@ use Rattle.bound_search.specs.declared.ends.PieceEnd.{PieceEnd}
 use Rattle.bound_search.specs.declared.run.Raced.{Raced}
 use Rattle.bound_search.specs.declared.start.Start.{Start}
 
--- all pieces, and an order that elects another candidate than the winner, of the hardness that the work of a piece is counted by
+-- all pieces, and an order that elects a candidate other than the winner and has the hardness by which the work of a piece is
+-- counted
 pub record IsStart (bag : Kept) (tab : Tabulated) (start : Start) : Type 0 where
   pub two : 1 < bag.n
   pub tails : start.tails.items ≡ map (piece_of bag.n) (pieces bag.n tab.winner)
@@ -26,7 +27,7 @@ pub record IsStart (bag : Kept) (tab : Tabulated) (start : Start) : Type 0 where
 abbrev pub IsClosedEntry : Kept → ℕ → PieceEnd → Type 0
 IsClosedEntry bag bound p = IsClosedAt bag bound p.tail.list p.expanded
 
--- a spent piece leaves the best margin open only if no order of hardness 0 is known
+-- a piece out of budget leaves the best margin open only if no order of hardness 0 is known
 abbrev pub spent_above : ℕ → Option ℕ → Option ℕ
 spent_above margin spent = if margin == 0 then None else spent
 

@@ -1,4 +1,4 @@
--- What becomes of the children of an expanded suffix, and of the first of a heap.
+-- What happens to the children of an expanded suffix, and to the first suffix of a heap.
 use Rattle.std.specs.Prelude.{◌≡◌, ◌⊎◌, ℕ, ◌<◌, ◌≤◌, ◌+◌, min, Bool, true, false, ◌==◌, List, [], ◌∷◌, ◌++◌, length, count_by, All, Contains, Option, Some, None, IfSome, slice_get}
 use Rattle.std.specs.List.Sorted.{IsPermutation}
 use Rattle.suffix_tree.specs.declared.scored.Scored.{Scored}
@@ -8,12 +8,12 @@ use Rattle.bound_search.specs.Fronts.{Frontier, IsAfter, IsFirstOf, IsFound, IsR
 use Rattle.bound_search.specs.declared.front.Look.{Look}
 use Rattle.bound_search.specs.declared.front.Look.TheVariants.{NoneLeft, Whole, Part}
 
--- the order that was found has at most this low
+-- an order was found, and its low is at most this
 abbrev pub IsFoundWithin : Option Scored → ℕ → Type 0
 IsFoundWithin None m = ⊥
 IsFoundWithin (Some o) m = o.low ≤ m
 
--- a child is pruned, open, or no better than the order that was found
+-- a child is pruned, open, or no better than the order found
 abbrev pub IsPlaced : ℕ → List Scored → Option Scored → Scored → Type 0
 IsPlaced bound fresh found x = (bound ≤ x.low) ⊎ (Contains fresh x ⊎ IsFoundWithin found x.low)
 
@@ -29,12 +29,12 @@ pub record IsFoundChild (children : List Scored) (bound : ℕ) (x : Scored) : Ty
   pub below : x.low < bound
   pub whole : length x.tail.list ≡ x.tail.n
 
--- the least margin found, with what was found now
+-- the smallest margin found, including what was found now
 abbrev pub least_after : ℕ → Option Scored → ℕ
 least_after least None = least
 least_after least (Some o) = min least o.low
 
--- the first suffix of a heap is taken, and the fresh ones are put in
+-- the first suffix of a heap is removed, and the fresh ones are inserted
 pub record Replaced (old fresh new : List Scored) : Type 0 where
   pub top : Scored
   pub rest : List Scored
@@ -42,7 +42,7 @@ pub record Replaced (old fresh new : List Scored) : Type 0 where
   pub taken : IsPermutation old (top ∷ rest)
   pub joined : IsPermutation (rest ++ fresh) new
 
--- the children take the place of the first suffix, or are pruned, or found
+-- the children replace the first suffix, or are pruned, or found
 pub record IsPut (children : List Scored) (old new : Frontier) (found : Option Scored)
     : Type 0 where
   pub fresh : List Scored
@@ -78,7 +78,7 @@ pub record IsExpanded (bag : Kept) (old new : Frontier) (found : Option Scored) 
   pub expanded : new.expanded ≡ old.expanded + 1
   pub newly : IsNewlyFound bag old new found
 
--- the first suffix, a whole order, is taken
+-- the first suffix, a whole order, is removed
 pub record IsTaken (old new : Frontier) (order : Scored) : Type 0 where
   pub first : slice_get old.suffixes 0 ≡ Some order
   pub taken : IsPermutation old.suffixes (order ∷ new.suffixes)

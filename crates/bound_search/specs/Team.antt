@@ -1,4 +1,4 @@
--- What a worker has before and after its share: what the closure that runs in its thread requires and ensures.
+-- What a worker has before and after its share: what the closure in its thread requires and ensures.
 use Rattle.std.specs.Prelude.{◌≡◌, ◌⊎◌, ℕ, ◌<◌, ◌≤◌, List, [], ◌∷◌, Option, None, Some, All, Err, IfOk, length, map, slice_index_or}
 use Rattle.std.specs.Option.{MatchOption}
 use Rattle.set_tallies.specs.Bags.{Kept}
@@ -19,7 +19,7 @@ use Rattle.bound_search.specs.declared.team.Worker.{Worker}
 abbrev pub waiting : RaceSeat → Worker
 waiting s = record { seat = s; end = Err record {} }
 
--- the worker's seat did nothing yet
+-- the worker's seat has done nothing yet
 abbrev pub WorkerWaits : SharedRace → Worker → Type 0
 WorkerWaits race w = w.seat ≡ new_seat race
 
@@ -29,12 +29,12 @@ pub record IsCut (bag : Kept) (tails : List Suffix) (race : SharedRace) : Type 0
   pub one_each : race.terms.pieces ≡ length tails
   pub few : length tails ≤ MOST_PIECES
 
--- what the end of a worker says; of an `Err` nothing is said
+-- what the end of a worker says; an `Err` says nothing
 abbrev pub HasEnd : Kept → ℕ → ℕ → List Suffix → ℕ → Worker → Type 0
 HasEnd bag first nodes tails worker w =
     IfOk w.end (IsWorkerEnd bag first nodes worker tails w.seat.view)
 
--- the seat is of the race, whatever the end
+-- the seat belongs to the race, whatever the end
 pub record WorkerRan (bag : Kept) (nodes : ℕ) (tails : List Suffix) (race : SharedRace) (number : ℕ)
     (w : Worker) : Type 0 where
   pub of_race : w.seat.race ≡ race.id
@@ -46,12 +46,12 @@ TeamRan bag nodes tails race team =
     (i : ℕ) (d : Worker) → i < length team →
     WorkerRan bag nodes tails race i (slice_index_or team i d)
 
--- ---- what all workers came to together
+-- ---- the combined results of all workers
 
 abbrev pub HasFewEnds : Worker → Type 0
 HasFewEnds w = IfOk w.end (λ e. length e.ends.items ≤ MOST_PIECES)
 
--- the entry of a piece that was closed: no seat has seen less than the bound
+-- the entry of a closed piece: no seat has seen less than the bound
 abbrev pub IsClosedUnder : Kept → List Seated → PieceEnd → Type 0
 IsClosedUnder bag seats p =
     (bound : ℕ) → All (λ s. bound ≤ s.view.seen) seats → IsClosedAt bag bound p.tail.list p.expanded

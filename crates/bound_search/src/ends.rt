@@ -9,7 +9,7 @@ use std::error::Error;
 use std::fmt;
 use suffix_tree::Tail;
 
-/// An order that elects another candidate than the winner, and its hardness, in votes.
+/// An order that elects a candidate other than the winner, and its hardness, in votes.
 #[derive(Clone, Copy)]
 pub struct Best {
     /// The order, which has all candidates of the contest.
@@ -23,66 +23,66 @@ pub struct Best {
 pub struct PieceEnd {
     /// The number of the piece.
     pub piece: u32,
-    /// The suffix that the orders of the piece end in.
+    /// The suffix in which the orders of the piece end.
     pub tail: Tail,
     /// The number of the worker that took it.
     pub worker: u32,
-    /// How many suffixes of the piece were expanded.
+    /// The number of suffixes of the piece that were expanded.
     pub expanded: u32,
 }
 
-/// What the share of one worker came to.
+/// The result of one worker's share.
 #[derive(Drop)]
 pub struct WorkerEnd {
-    /// The least hard order that it found, if it found one.
+    /// The least hard order that it found, if it found any.
     pub best: Option<Best>,
-    /// The pieces that it took, in turn.
+    /// The pieces that it took, in order.
     pub ends: Vec<PieceEnd>,
     /// The number of the piece that it couldn't search to the end within the budget. There is at most one.
     pub spent: Vec<u32>,
-    /// The numbers of the pieces that it took after that one, and skipped.
+    /// The numbers of the pieces that it took after that one and skipped.
     pub skipped: Vec<u32>,
-    /// How often it looked at the bound.
+    /// The number of times it looked at the bound.
     pub looks: u64,
 }
 
 /// What one worker did in a race.
 #[derive(Clone, Copy, Debug)]
 pub struct Report {
-    /// How many pieces it took.
+    /// The number of pieces that it took.
     pub pieces: u32,
-    /// How many suffixes it expanded.
+    /// The number of suffixes that it expanded.
     pub expanded: u64,
-    /// How often it looked at the bound.
+    /// The number of times it looked at the bound.
     pub looks: u64,
 }
 
-/// What a race within its budget answers.
+/// What a race within its budget returns.
 #[derive(Drop)]
 pub struct RaceEnd {
     /// The best margin, in votes.
     pub margin: u32,
-    /// An alternative order of that hardness.
+    /// An alternative order that has this hardness.
     pub order: Order,
     /// The pieces, in the order of their numbers.
     pub pieces: Vec<PieceEnd>,
     /// What each worker did.
     pub workers: Vec<Report>,
-    /// The records with the sums over all sets, if the race made these.
+    /// The records with the sums over all sets, if the race made the sums.
     pub summed: Option<Counted>,
 }
 
 /// Why a race has no best margin.
 #[derive(Clone, Copy)]
 pub enum RaceFault {
-    /// A piece whose orders elect `last` has more work than the budget. `order` is an alternative order of hardness `upper`, the least
-    /// that was found, which is above 0.
+    /// A piece whose orders elect `last` has more work than the budget. `order` is an alternative order whose hardness is `upper`,
+    /// the smallest that was found, which is above 0.
     Spent {
         last: Candidate,
         upper: u32,
         order: Order,
     },
-    /// Memory could not be had.
+    /// Memory could not be allocated.
     Memory,
 }
 

@@ -13,11 +13,11 @@ use std::collections::BinaryHeap;
 use std::marker::Model;
 use suffix_tree::{Scored, Tail};
 
-/// The open suffixes of one piece: all that is left to look at of the suffixes that end in one. A suffix is expanded at most
-/// once, and its children come in its place.
+/// The open suffixes of one piece: everything that is left to examine of the suffixes that end in a given one. A suffix is expanded
+/// at most once, and its children replace it.
 ///
-/// To a contract it is the piece, the list of the open suffixes, in whatever order, the bound of the last turn, the least
-/// margin that was found, in votes, and how many suffixes were expanded.
+/// In a contract, it is the piece, the list of the open suffixes, in any order, the bound of the last turn, the smallest margin
+/// found, in votes, and the number of suffixes expanded.
 #[derive(Drop)]
 pub struct Front {
     piece: Tail,
@@ -54,7 +54,8 @@ pub enum Look {
 }
 
 impl Front {
-    /// The suffix alone, open. It is what `score` gives of its tail; all turns are over the tallies that it was scored with.
+    /// Creates a front in which only this suffix is open. It is what `score` gives for its tail. All turns use the tallies that it
+    /// was scored with.
     pub fn new(alloc: Global, start: Scored) -> Result<Front, Memory>
         ensures front { IfOk result (λ f. (bag : Kept) → start.tail.n ≡ bag.n
             → IsScoredOver bag start → IsFront bag f) }
@@ -66,7 +67,7 @@ impl Front {
         ensures none_expanded { IfOk result (λ f. f.expanded ≡ 0) }
     {
         let piece = start.tail;
-        // The list promises what no field of a tail says: its candidates are distinct, and of the contest.
+        // The list guarantees what no field of a tail says: its candidates are distinct, and are candidates of the contest.
         let _suffix = start.tail.list();
         let mut suffixes = BinaryHeap::new(alloc);
         suffixes.push(start)?;
@@ -79,14 +80,14 @@ impl Front {
         })
     }
 
-    /// How many suffixes were expanded.
+    /// The number of suffixes expanded.
     pub fn expanded(&self) -> u32
         ensures { result ≡ self.now.expanded }
     {
         self.expanded
     }
 
-    // Takes the bound of a turn.
+    // Sets the bound of a turn.
     pub(crate) fn lower(&mut self, bound: u32)
         ensures { self.new ≡ record self.old { bound = bound } }
     {
@@ -118,7 +119,7 @@ impl Front {
         }
     }
 
-    // The first suffix: none has a lower low.
+    // The first suffix. No other has a lower low.
     pub(crate) fn first(&self) -> &Scored
         requires { 0 < length self.now.suffixes }
         ensures is { slice_get self.now.suffixes 0 ≡ Some result.now }
@@ -130,7 +131,7 @@ impl Front {
         }
     }
 
-    // Takes the first suffix, which is a whole order.
+    // Removes the first suffix, which is a whole order.
     pub(crate) fn take_whole(&mut self) -> Scored
         requires { 0 < length self.old.suffixes }
         ensures { IsTaken self.old self.new result }
@@ -142,7 +143,7 @@ impl Front {
         order
     }
 
-    // Puts the children in the place of the first suffix. If memory is short nothing changes.
+    // Replaces the first suffix with the children. If memory runs out, nothing changes.
     pub(crate) fn put(
         &mut self,
         alloc: Global,

@@ -1,4 +1,4 @@
-// What the workers of a race came to, put together.
+// The results of a race's workers, combined.
 ghost use Rattle.std.specs.Prelude.{◌≡◌, ◌<◌, ◌≤◌, ◌⊎◌, ℕ, List, All, Contains, IfOk, IfSome, IsTrue, Some, length, map, min, sum_by};
 ghost use Rattle.std.specs.Option.{option_map_or};
 ghost use Rattle.irv_base.specs.Candidates.{is_in, candidates};
@@ -14,22 +14,22 @@ use irv_base::Memory;
 use shared_witness::RaceSeat;
 use std::alloc::Global;
 
-/// What the workers came to together.
+/// The combined results of the workers.
 #[derive(Drop)]
 pub(crate) struct Joined {
-    /// The seats of the workers, as these left them.
+    /// The seats of the workers, as the workers left them.
     pub seats: Vec<RaceSeat>,
     /// The ends of the pieces that were taken, worker by worker.
     pub ends: Vec<PieceEnd>,
     /// What each worker did, in the order of their numbers.
     pub reports: Vec<Report>,
-    /// The least hard of the orders that were found, or the start order.
+    /// The least hard of the orders found, or the start order.
     pub best: Best,
     /// The number of a piece whose work is above the budget.
     pub spent: Option<u32>,
 }
 
-// The less hard of the two.
+// The less hard of two orders.
 fn better(best: Best, found: Option<Best>) -> Best
     ensures margin { result.margin
         ≡ option_map_or (λ b. min b.margin best.margin) found best.margin }
@@ -41,7 +41,7 @@ fn better(best: Best, found: Option<Best>) -> Best
     }
 }
 
-// The number that is there, or otherwise the first of the others.
+// The number, if there is one, and otherwise the first of the others.
 fn first_of(number: Option<u32>, others: &[u32]) -> Option<u32>
     ensures { result ≡ first_of number others.now }
 {
@@ -68,7 +68,7 @@ fn report_of(end: &WorkerEnd) -> Report
     }
 }
 
-/// Puts together the results of the workers and the order that the race started from.
+/// Combines the results of the workers with the order from which the race started.
 pub(crate) fn join(alloc: Global, team: Vec<Worker>, start: Best) -> Result<Joined, Memory>
     requires few { All HasFewEnds team.items }
     ensures seats { IfOk result (λ j. j.seats.items ≡ map (λ w. w.seat) team.items) }
@@ -99,7 +99,7 @@ pub(crate) fn join(alloc: Global, team: Vec<Worker>, start: Best) -> Result<Join
     })
 }
 
-// The entry of the piece of this number.
+// The entry of the piece with this number.
 fn entry_of(ends: &[PieceEnd], piece: u32) -> PieceEnd
     requires { IsTrue (is_in (map (λ p. p.piece) ends.now) piece) }
     ensures piece { result.piece ≡ piece }
@@ -113,7 +113,7 @@ fn entry_of(ends: &[PieceEnd], piece: u32) -> PieceEnd
     unreachable!()
 }
 
-/// The entries in the order of the pieces.
+/// Puts the entries in the order of the pieces.
 pub(crate) fn in_order(
     alloc: Global,
     count: u32,

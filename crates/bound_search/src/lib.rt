@@ -1,6 +1,6 @@
-//! The search for the best margin: the least hardness of an order that elects another candidate than the winner. The orders
-//! are cut into pieces, by the two candidates that they end in. Workers take these in turn, and expand the suffixes of a piece
-//! best first, under a bound that all share and that falls with each order found: the search of RAIRE.
+//! The search for the best margin: the smallest hardness of an order that elects a candidate other than the winner. The orders are
+//! divided into pieces, by the two candidates in which they end. Workers take these pieces in order, and expand the suffixes of a
+//! piece best first, under a bound that all workers share and that falls with each order found. This is the search of RAIRE.
 #![tactic(auto)]
 
 mod ends;

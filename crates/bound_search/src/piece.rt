@@ -12,21 +12,21 @@ use std::alloc::Global;
 use std::sync::ledger::{Blank, Ledger};
 use suffix_tree::{Tail, score};
 
-/// What the search of a piece came to.
+/// The result of searching a piece.
 #[derive(Drop)]
 pub struct Searched {
-    /// The last order that was found. Each that is found is less hard than any before.
+    /// The last order found. Each order found is less hard than any before.
     pub found: Option<Best>,
-    /// How many suffixes were expanded.
+    /// The number of suffixes expanded.
     pub expanded: u32,
-    /// How often the worker looked at the bound.
+    /// The number of times the worker looked at the bound.
     pub looks: u64,
-    /// Was the piece closed, or the budget spent?
+    /// Whether the piece was closed, as opposed to the budget being spent.
     pub closed: bool,
 }
 
 impl Searched {
-    /// What a piece comes to that is skipped.
+    /// The result for a piece that is skipped.
     pub(crate) fn skipped() -> Searched
         ensures found { result.found ≡ None }
         ensures expanded { result.expanded ≡ 0 }
@@ -42,7 +42,7 @@ impl Searched {
     }
 }
 
-/// Searches a piece that the seat took, turn by turn, each under the bound as it is then, and posts each order that is found.
+/// Searches a piece that the seat took, turn by turn, each turn under the bound at that time, and posts each order found.
 pub(crate) fn search<L: Ledger>(
     alloc: Global,
     blank: Blank,

@@ -8,8 +8,8 @@ use irv_base::{Candidate, Memory};
 use std::alloc::Global;
 use suffix_tree::Tail;
 
-/// The pieces of a race in the order of their numbers, each by the suffix of two candidates that its orders end in. The last of these
-/// isn't the winner.
+/// Returns the pieces of a race in the order of their numbers, each given by the suffix of two candidates in which its orders end.
+/// The last of these candidates isn't the winner.
 pub fn tails_of(alloc: Global, n: u32, winner: Candidate) -> Result<Vec<Tail>, Memory>
     requires room { n ≤ ROOM }
     ensures pieces { IfOk result (λ tails. tails.items ≡ map (piece_of n) (pieces n winner)) }

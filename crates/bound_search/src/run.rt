@@ -14,36 +14,36 @@ use shared_witness::{Race, Seats};
 use std::thread::Threads;
 use suffix_tree::Tail;
 
-/// What a race over given pieces came to.
+/// The result of a race over given pieces.
 #[derive(Drop)]
 pub(crate) struct Raced {
     /// The entries of the pieces, worker by worker.
     pub ends: Vec<PieceEnd>,
     /// What each worker did.
     pub reports: Vec<Report>,
-    /// The least hard of the orders that were found, or the start order.
+    /// The least hard of the orders found, or the start order.
     pub best: Best,
-    /// The number of a piece whose work is above the budget. With an order of hardness 0 there is none.
+    /// The number of a piece whose work is above the budget. If an order of hardness 0 was found, there is none.
     pub spent: Option<u32>,
 }
 
-/// The result of a race, and the records that it was over, with the sums over all sets, if it made these.
+/// The result of a race, and the records that it ran over, with the sums over all sets, if it made the sums.
 #[derive(Drop)]
 pub(crate) struct Run {
-    /// What it came to.
+    /// The result of the race.
     pub raced: Raced,
     /// The records with sums.
     pub summed: Option<Counted>,
 }
 
-// The spent piece, unless an order of hardness 0 was found: then the best margin is 0, whatever was spent.
+// The piece that is out of budget, unless an order of hardness 0 was found: then the best margin is 0, whatever ran out of budget.
 fn spent_above(margin: u32, spent: Option<u32>) -> Option<u32>
     ensures { result ≡ spent_above margin spent }
 {
     if margin == 0 { None } else { spent }
 }
 
-// Runs a race over these pieces, from the order `first` on, unless memory is short or rows of tallies take long.
+// Runs a race over these pieces, starting from the order `first`, unless memory runs out or rows of tallies take long.
 fn run_once<R: AllocGlobal + Threads + Sync, G: Gate + Sync>(
     rt: &R,
     counted: &Counted,
@@ -89,8 +89,8 @@ fn run_once<R: AllocGlobal + Threads + Sync, G: Gate + Sync>(
     })
 }
 
-/// Runs a race over these pieces, from the order `first` on. If rows of tallies take long, it runs again with sums over all sets, which
-/// all workers share.
+/// Runs a race over these pieces, starting from the order `first`. If rows of tallies take long, it runs the race again with sums
+/// over all sets, which all workers share.
 pub(crate) fn run_race<R: AllocGlobal + Threads + Sync, G: Gate + Sync>(
     rt: &R,
     counted: &Counted,

@@ -15,7 +15,7 @@ use set_tallies::Counted;
 use std::thread::Threads;
 use suffix_tree::Tail;
 
-// The race is spent on this piece, of two candidates.
+// The fault of a race that ran out of budget on this piece, which has two candidates.
 fn spent_on(tail: &Tail, best: Best) -> RaceFault
     requires { length tail.now.list ≡ 2 }
     ensures { (other last : ℕ) → tail.now.list ≡ other ∷ last ∷ []
@@ -28,13 +28,13 @@ fn spent_on(tail: &Tail, best: Best) -> RaceFault
     }
 }
 
-/// The best margin over the records, and an order of that hardness: of all that elect another candidate than the winner of `tab`, none
-/// has a smaller greatest margin of a true assertion that refutes it.
+/// Finds the best margin over the records, and an order that has this hardness. Of all orders that elect a candidate other than the
+/// winner of `tab`, none has a smaller greatest margin of a true assertion that refutes it.
 ///
-/// `tab` is the tabulation of the records. The workers take the pieces, two candidates that an order ends in, in their order. Each has
-/// tallies of its own, and all search under one bound. Each piece has the whole budget of `nodes` suffixes. If that of some piece is
-/// spent, the answer is its last candidate and the least order found, unless that order is of hardness 0: then the best margin is 0,
-/// whatever was spent. The other error is want of memory.
+/// `tab` is the tabulation of the records. The workers take the pieces in order; a piece is given by the two candidates in which
+/// its orders end. Each worker has its own tallies, and all search under one bound. Each piece has the whole budget of `nodes`
+/// suffixes. If some piece runs out of budget, the answer is the piece's last candidate and the least hard order found, unless that
+/// order has hardness 0: then the best margin is 0, whatever ran out of budget. The only other error is lack of memory.
 ///
 /// If rows of tallies take long, the race makes the sums over all sets, and returns them.
 pub fn race<R: AllocGlobal + Threads + Sync, G: Gate + Sync>(

@@ -15,7 +15,7 @@ use std::marker::Brand;
 use std::sync::ledger::Blank;
 use suffix_tree::Tail;
 
-// Notes the piece if it was left open: as spent if none was before, and as skipped otherwise.
+// Notes the piece if it was left open: as out of budget if none was before, and as skipped otherwise.
 fn note(
     spent: &mut Vec<u32>,
     skipped: &mut Vec<u32>,
@@ -42,7 +42,7 @@ fn note(
     Ok(())
 }
 
-// Searches the piece, or skips it. To contracts a skipped one was left open.
+// Searches the piece, or skips it. In a contract, a skipped piece was left open.
 fn search_or_skip(
     alloc: Global,
     race: &Race,
@@ -77,11 +77,13 @@ fn search_or_skip(
     Ok(searched)
 }
 
-/// The share of one worker of a race: it takes a piece, searches it, and takes the next, until none is left. Once the budget of a piece
-/// is spent, so is that of the race, and the worker skips what it takes after. For each piece that it takes the gate is called first.
+/// Runs the share of one worker of a race: it takes a piece, searches it, and takes the next, until none is left. Once a piece is
+/// out of budget, so is the race, and the worker skips the pieces that it takes afterwards. For each piece that it takes, it first
+/// calls the gate.
 ///
-/// `tails` are the pieces of the race in the order of their numbers, each by the suffix that its orders end in. The seat is one of the
-/// race that did nothing yet. Each piece has the whole budget of `nodes` suffixes. The one error is want of memory.
+/// `tails` are the pieces of the race in the order of their numbers, each given by the suffix in which its orders end. The seat is
+/// a seat of the race that has done nothing yet. Each piece has the whole budget of `nodes` suffixes. The only error is lack of
+/// memory.
 pub fn work<G: Gate + Sync>(
     alloc: Global,
     race: &Race,

@@ -10,7 +10,7 @@ use std::alloc::Global;
 use std::collections::BinaryHeap;
 use suffix_tree::Scored;
 
-// The lesser of what was found and one more order.
+// The less hard of the order found before, if any, and one more order.
 fn lesser(found: Option<Scored>, order: Scored) -> Scored
     ensures order { result.low ≤ order.low }
     ensures found { IfSome found (λ o. result.low ≤ o.low) }
@@ -22,16 +22,16 @@ fn lesser(found: Option<Scored>, order: Scored) -> Scored
     }
 }
 
-/// What becomes of the children: those that stay open, and the least whole order.
+/// What happens to the children: those that stay open, and the least hard whole order.
 #[derive(Drop)]
 pub struct Sifted {
-    /// The children that stay open, the least low first.
+    /// The children that stay open, the lowest low first.
     pub fresh: BinaryHeap<Scored>,
-    /// The least whole order below the bound, if there is one.
+    /// The least hard whole order below the bound, if there is one.
     pub found: Option<Scored>,
 }
 
-/// Prunes the children that the bound rules out, and sets the least whole order apart.
+/// Prunes the children that the bound rules out, and sets aside the least hard whole order.
 pub fn sift(alloc: Global, children: Vec<Scored>, bound: u32) -> Result<Sifted, Memory>
     ensures heap { IfOk result (λ s. IsHeap first_is_greatest (heap_items s.fresh)) }
     ensures each { IfOk result (λ s. (x : Scored) → Contains children.items x
@@ -56,7 +56,7 @@ pub fn sift(alloc: Global, children: Vec<Scored>, bound: u32) -> Result<Sifted, 
     Ok(Sifted { fresh, found })
 }
 
-/// Takes the first suffix, and puts the fresh ones in. If memory is short nothing changes.
+/// Removes the first suffix, and inserts the fresh ones. If memory runs out, nothing changes.
 pub fn replace_first(
     suffixes: &mut BinaryHeap<Scored>,
     fresh: BinaryHeap<Scored>,
@@ -80,7 +80,7 @@ pub fn replace_first(
     }
 }
 
-/// The least margin found, with what was found now.
+/// The smallest margin found, including what was found now.
 pub fn lessened(least: u32, found: &Option<Scored>) -> u32
     ensures { result ≡ least_after least found.now }
 {

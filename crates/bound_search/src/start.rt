@@ -1,4 +1,4 @@
-// What a race starts from: the tabulated order with its last two candidates exchanged, and the pieces.
+// What a race starts from: the pieces, and the tabulated order with its last two candidates exchanged.
 ghost use Rattle.std.specs.Prelude.{◌≡◌, ◌≤◌, IfOk, IsTrue, length};
 ghost use Rattle.irv_base.specs.declared.limits.TheConstants.{FEWEST_CANDIDATES, ROOM};
 ghost use Rattle.irv_base.specs.Orders.{is_order, Elects};
@@ -18,9 +18,9 @@ use suffix_tree::{Tail, score};
 /// What a race starts from.
 #[derive(Drop)]
 pub(crate) struct Start {
-    /// An order that elects another candidate than the winner.
+    /// An order that elects a candidate other than the winner.
     pub first: Best,
-    /// The pieces in the order of their numbers, each by the suffix that its orders end in.
+    /// The pieces in the order of their numbers, each given by the suffix in which its orders end.
     pub tails: Vec<Tail>,
 }
 
@@ -42,7 +42,7 @@ fn start_tail(n: u32, order: &Order) -> Tail
     tail
 }
 
-/// The order that a race starts from, with its hardness.
+/// Returns the order from which a race starts, with its hardness.
 pub fn first_order(tab: &Tabulated, tallies: &mut Tallies) -> Result<Best, Memory>
     requires order { IsTrue (is_order tallies.old.bag.n tab.now.order) }
     requires winner { Elects tab.now.order tab.now.winner }

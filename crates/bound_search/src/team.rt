@@ -16,16 +16,16 @@ use std::thread;
 use std::thread::Threads;
 use suffix_tree::Tail;
 
-/// A worker: its seat, and its end. Before its share the end is an `Err`.
+/// A worker: its seat, and its end. Before the worker's share, the end is an `Err`.
 #[derive(Drop)]
 pub(crate) struct Worker {
     /// Its seat in the race.
     pub seat: RaceSeat,
-    /// Its result, or `Memory` if it couldn't go on or hasn't begun.
+    /// Its result, or `Memory` if it couldn't continue or hasn't begun.
     pub end: Result<WorkerEnd, Memory>,
 }
 
-/// A worker for each of the seats.
+/// Creates a worker for each of the seats.
 pub(crate) fn team_of(alloc: Global, seats: Vec<RaceSeat>) -> Result<Vec<Worker>, Memory>
     ensures { IfOk result (λ team. team.items ≡ map waiting seats.items) }
 {
@@ -39,7 +39,7 @@ pub(crate) fn team_of(alloc: Global, seats: Vec<RaceSeat>) -> Result<Vec<Worker>
     Ok(team)
 }
 
-// The share of one worker, over tallies of its own.
+// Runs the share of one worker, over its own tallies.
 fn share<G: Gate + Sync>(
     alloc: Global,
     race: &Race,

@@ -19,15 +19,15 @@ use suffix_tree::{Scored, expand_below};
 pub enum Turn {
     /// No open suffix is below the bound.
     Closed,
-    /// An order of the piece below the bound, with its hardness, in votes.
+    /// An order of the piece was found below the bound. `margin` is its hardness, in votes.
     Found { order: Order, margin: u32 },
-    /// As many suffixes were expanded as one turn does, and one below the bound is left.
+    /// The turn expanded as many suffixes as one turn does, and an open suffix below the bound is left.
     More,
-    /// As many suffixes were expanded as the turn was allowed, and one below the bound is left.
+    /// The turn expanded as many suffixes as it was allowed, and an open suffix below the bound is left.
     Spent,
 }
 
-// The answer for a whole order.
+// The result for a whole order.
 fn found(order: &Scored) -> Turn
     requires { (length order.now.tail.list == order.now.tail.n) ≡ true }
     ensures { result ≡ Found order.now.tail.list order.now.low }
@@ -42,7 +42,7 @@ fn found(order: &Scored) -> Turn
 }
 
 impl Front {
-    // Expands the first suffix, which isn't a whole order. One step.
+    // Expands the first suffix, which isn't a whole order. This is one step.
     fn expand_first<L: Ledger>(
         &mut self,
         alloc: Global,
@@ -61,10 +61,11 @@ impl Front {
         self.put(alloc, children)
     }
 
-    /// Expands open suffixes that are below the bound, at most `MOST_EXPANDED` and at most `left`, until an order below the bound is
-    /// found or none is left. Each is one step.
+    /// Expands open suffixes that are below the bound, at most `MOST_EXPANDED` and at most `left`, until an order below the bound
+    /// is found or no suffix below the bound is left. Each expansion is one step.
     ///
-    /// The bound is at most that of the turn before. The one error is want of memory, after which the front covers the same orders.
+    /// The bound is at most that of the turn before. The only error is lack of memory, after which the front covers the same
+    /// orders.
     pub fn turn<L: Ledger>(
         &mut self,
         alloc: Global,

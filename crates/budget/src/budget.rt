@@ -1,4 +1,4 @@
-// What a budget counts, and how many of them it has.
+// What a budget counts, and the number that it allows.
 
 /// How far a walk through elimination orders may go.
 #[derive(Clone, Copy, Debug, PartialEq, Eq)]

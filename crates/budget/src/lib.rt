@@ -1,4 +1,4 @@
-//! How far a walk through elimination orders may go: its budget, and the limits of that.
+//! How far a walk through elimination orders may go: its budget, and the limits of budgets.
 #![tactic(auto)]
 
 mod budget;

@@ -1,4 +1,5 @@
--- Two calls with the same words, or with words that differ in the number of workers alone, over desks that hold the same, end in the same way.
+-- Two calls with the same words, or with words that differ only in the number of workers, over desks that hold the same files, end in the same
+-- way.
 use Rattle.std.proofs.Common.{◌≡◌, ◌≢◌, inl, inr, ℕ, Bool, true, false, List, Option, None, Some, refl, sym, ◌∙◌, ap, subst}
 use Rattle.std.proofs.lemmas.Bool.{false≢true}
 use Rattle.desk.specs.Desk.{File}
@@ -17,7 +18,7 @@ use Rattle.call_laws.proofs.ContestsOnce.{contests_once}
 use Rattle.call_laws.proofs.SameWorkers.{come_the_same, own_workers, spent_the_same}
 use Rattle.raire_cli.proofs.EachCommand.{agrees_exactly, agrees_in_full}
 
--- what a script may come to, over files that hold the same
+-- what a script may come to, over files with the same bytes
 moved : (files others : List File) → HoldTheSame files others → (script : Script) (due : Outcome) → May (AsHeld others) script due →
     May (AsHeld files) script due
 moved files others same (Ends verdicts) due may = may

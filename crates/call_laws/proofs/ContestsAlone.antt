@@ -1,4 +1,4 @@
--- The block of a contest among others is the one that it has by itself.
+-- The block of a contest among others is the same as its block by itself.
 use Rattle.std.proofs.Common.{◌≡◌, ◌∙◌, ◌&&◌, ◌++◌, ◌∷◌, [], ℕ, zero, suc, Bool, true, false, cond, List, All, Option, Some, None, Result, Ok, Err, append-nil, refl, sym, ap, subst}
 use Rattle.std.specs.List.{slice_get}
 use Rattle.std.proofs.lemmas.List.Elements.{All-head}
@@ -34,7 +34,7 @@ use Rattle.raire_cli.specs.Contests.{AuditsContests, blocks_of}
 use Rattle.call_laws.specs.ContestsAlone.{AreAlone, BlockAlone, HaveSameTerms}
 use Rattle.raire_cli.proofs.Said.{only}
 
--- ---- what is seen for a contest doesn't depend on where its ballots stand
+-- ---- what is seen for a contest doesn't depend on where its ballots are
 
 module _ (ballots : BallotFile) (places : List ℕ) (batches : Batches) where
   entry-moved : (earlier : List ContestEntry) (word : Id) (rest : Fields) (card : ℕ) (b : Bool) →
@@ -59,7 +59,7 @@ module _ (ballots : BallotFile) (places : List ℕ) (batches : Batches) where
       (λ i. for_each_contest (moved ballots places ∷ []) (read_after (λ earlier row. row-moved earlier row i) [] 1 rows))
       ∙ each-moved (read_after (contest_entry_of batches (ballots ∷ [])) [] 1 rows)
 
--- ---- what is told of a contest doesn't either
+-- ---- what is printed about a contest doesn't either
 
 block-moved : (limit : ℕ) (ballots : BallotFile) (places : List ℕ) (end : ContestEnd) → block limit (moved ballots places) end ≡ block limit ballots end
 block-moved limit ballots places (Tied round tied tally) = refl

@@ -1,4 +1,4 @@
--- An audit of all contests has one end, if the nodes are enough for each contest that is held.
+-- An audit of all contests has one end if the nodes are enough for each contest that is held.
 use Rattle.std.proofs.Common.{◌≡◌, inl, inr, ℕ, List, All, Some, Result, Ok, Err, refl, sym, ap, subst, ◌∙◌}
 use Rattle.desk.specs.Desk.{File, held_bytes}
 use Rattle.ballots.specs.Ballots.{BallotFile}

@@ -1,4 +1,4 @@
--- A poll with a look after each draw that confirms all claims is counted, and the polls of what was announced confirm them on few
+-- A poll with a look after each draw that confirms all claims is counted, and the polls of what was announced confirm all claims on few
 -- sequences.
 use Rattle.std.proofs.Common.{◌≡◌, ℕ, ◌≤◌, ◌<◌, ◌*◌, ◌^◌, List, [], ◌∷◌, map, length, get_or, IfSome, Ok, Option, IsTrue, sym, ap, subst, ◌∙◌, arith}
 use Rattle.std.proofs.lemmas.List.Elements.{All-head, All-map, All-weaker}
@@ -60,7 +60,7 @@ module _ (announced : AnnouncedEachPoll) (actual : List (List ℕ)) (most : ℕ)
   abbrev own_claims : List Polled
   own_claims = polled_of announced.gamma all_cards announced.file
 
-  -- the sequence is one of so many draws, and is counted
+  -- the sequence has this number of draws, and is counted
   abbrev Counted : Batches → Content → ℕ → Option ℕ → List ℕ → Type 0
   Counted batches file limit gamma sequence =
       IsSequence (length (cards_of batches)) most sequence × MayBeEachConfirmed limit (polled_of gamma (length (cards_of batches)) file) actual sequence

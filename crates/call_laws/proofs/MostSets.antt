@@ -1,4 +1,4 @@
--- With the most sets that a line may allow, nothing of up to twenty candidates is spent.
+-- With the maximum number of sets that a line may allow, nothing with up to twenty candidates runs out of budget.
 use Rattle.std.proofs.Common.{ℕ, ◌≤◌, ◌-◌, ◌^◌, arith}
 use Rattle.std.proofs.Math.Pow.{pow_mono}
 use Rattle.assertion_file.specs.Content.{candidate_count as count_in}

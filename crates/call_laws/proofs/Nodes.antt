@@ -1,4 +1,4 @@
--- The default number of nodes suffices for contests of up to nine candidates.
+-- The default number of nodes is enough for contests of up to nine candidates.
 use Rattle.std.proofs.Common.{ℕ, zero, suc, ◌≤◌, ◌-◌, ◌*◌, List, arith}
 use Rattle.assertions.specs.Suffixes.{factorial}
 use Rattle.ballots.specs.Ballots.{BallotFile}

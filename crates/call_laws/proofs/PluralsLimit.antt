@@ -1,4 +1,4 @@
--- If an audit of a plurality contest signs its session off, the risk limit counts the session; and those sessions are few.
+-- If an audit of a plurality contest signs its session off, the risk limit counts the session. Those sessions are few.
 use Rattle.std.proofs.Common.{◌≡◌, ◌≢◌, ℕ, ◌<◌, ◌≤◌, List, [], ◌∷◌, length, Option, Some, Ok, All, AllPairs, IsTrue, sym, ap, subst, ◌∙◌, arith}
 use Rattle.std.proofs.lemmas.List.{length-map}
 use Rattle.std.proofs.lemmas.List.Elements.{All-head, All-weaker}

@@ -144,7 +144,7 @@ module _ (budget : Budget) (least : ℕ) (plan : Option PlanTerms) (limits : IfS
 
 -- ---- what was printed, by any search
 
--- the ballots that it read, by this name and of this contest, and the file that it printed of them, which reads back and is accepted
+-- the ballots that it read, with this name and of this contest, and the file that it printed for them, which reads back and is accepted
 pub record WasPrinted (files : List File) (own : List ℕ) (contest : Option Id) (budget : Budget) (text : List ℕ) : Type 0 where
   pub bytes : List ℕ
   pub held : held_bytes own files ≡ Some bytes
@@ -208,7 +208,7 @@ printed_is_accepted words others search check files more first second text print
 
 -- ---- a session
 
--- the manifest has a card of each ballot
+-- the manifest has a card for each ballot
 cards-ok : (name : List ℕ) (ballots : BallotFile) (manifest bytes : List ℕ) (batches : Batches) → manifest_of bytes ≡ Ok batches →
     first_without_card batches ballots ≡ None →
     cards_for name ballots manifest bytes ≡ Ok batches

@@ -1,4 +1,4 @@
--- The number of workers changes nothing that a command may come to.
+-- The number of workers doesn't change what a command may come to.
 use Rattle.std.proofs.Common.{◌≡◌, inl, inr, ℕ, List, [], ◌∷◌, take, Option, None, Some, option_map, Result, Ok, Err, refl, sym, ap, subst, ◌∙◌}
 use Rattle.ballots.specs.Ballots.{BallotFile}
 use Rattle.ballots.specs.Grammar.{contests_of}
@@ -74,7 +74,7 @@ module _ (batches : Batches) (terms : SharedTerms) (workers : ℕ) where
     ends = are_ends (take contest list) (take contest seen) first.earlier first.ends;
   }
 
--- what is judged goes on in either way
+-- what is judged continues either way
 on_judged : {A : Type 0} (readings : Readings) (judged : Result A Verdict) (next other : A → Script) (due : Outcome) →
     ((value : A) → May readings (next value) due → May readings (other value) due) → May readings (go_on judged next) due →
     May readings (go_on judged other) due
@@ -148,7 +148,7 @@ module _ (workers : ℕ) where
     come_the_same None bad = bad
     come_the_same (Some command) may = may_the_same command may
 
-  -- what may be spent of the one, may be spent of the other
+  -- if the first command may run out of budget, so may the second
   pub spent_the_same : (words others : List (List ℕ)) (command : Option Command) → command_of words ≡ command →
       command_of others ≡ option_map (with_workers workers) command → MayBeSpent others → MayBeSpent words
   spent_the_same words others None is other spent = let none = sym other ∙ spent.asked_for in absurd (cc none)
@@ -156,7 +156,7 @@ module _ (workers : ℕ) where
       let same : with_workers workers command ≡ spent.command = some_is (sym other ∙ spent.asked_for) in
       record { command = command; asked_for = is; is_open = sym (same_open command) ∙ ap is_open same ∙ spent.is_open }
 
--- words differ from themselves in no number
+-- words don't differ from themselves in any number
 pub own_workers : (command : Option Command) → (workers : ℕ) × (command ≡ option_map (with_workers workers) command)
 own_workers None = (0, refl)
 own_workers (Some (Search task)) = (task.workers, refl)

@@ -1,4 +1,5 @@
--- A session that an audit signs off is counted by the risk limit; and of all sequences of draws, the audits of what was announced are signed off on few.
+-- The risk limit counts a session that an audit signs off, and the audits of what was announced are signed off on few of all sequences of
+-- draws.
 use Rattle.std.proofs.Common.{◌≡◌, ◌≢◌, ℕ, ◌<◌, ◌≤◌, List, [], ◌∷◌, length, Option, Some, All, AllPairs, sym, ap, subst, ◌∙◌, arith}
 use Rattle.std.proofs.lemmas.List.{length-map}
 use Rattle.std.proofs.lemmas.List.Elements.{All-head, All-weaker}
@@ -39,7 +40,7 @@ said-once contest bytes basis other says tells =
     let file : basis.file ≡ other.file = only says.assertions tells.assertions in
     λ i. record { ballots = ballots i; batches = batches i; file = file i }
 
--- what bytes say is sound, and so its parts fit together
+-- what bytes say is sound, so its parts fit together
 fit : (contest : Option Id) (bytes : FileBytes) (basis : Basis) → Say contest bytes basis → BelongTogether basis →
     FitTogether basis.batches basis.ballots basis.file
 fit contest bytes basis say together = record {

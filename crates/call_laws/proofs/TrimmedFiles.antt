@@ -1,4 +1,4 @@
--- A later call accepts what a trim printed, and trims it to the same.
+-- A later call accepts what a trim printed, and trims it to the same text.
 use Rattle.std.proofs.Common.{◌≡◌, ◌⊎◌, inl, inr, ℕ, List, Some, Result, Ok, Err, refl, sym, ap, subst, ◌∙◌, arith}
 use Rattle.desk.specs.Desk.{File}
 use Rattle.budget.specs.declared.budget.Budget.{Budget}
@@ -82,7 +82,7 @@ trimmed_is_accepted words others trim check files more first second text printed
 
 -- ---- a trim
 
--- a file that stays as it is has the same text, or a trial is spent
+-- a file that stays as it is has the same text, or a trial runs out of budget
 module _ (budget : Budget) (ballots : BallotFile) (file left : Content) (accepted : IsAnswer budget ballots left (Ok Accepted)) (is : trimmed budget file ≡ Ok left) where
   abbrev IsSame : Verdict → Type 0
   IsSame v = ((outcome v).status ≡ 4) ⊎ (v ≡ Answered Done (assertion_file_text left))

@@ -1,4 +1,4 @@
--- A session of one card that goes on by a draw, and isn't signed off yet.
+-- A session of one card that continues by one draw, and isn't signed off yet.
 use Rattle.std.proofs.Common.{◌≡◌, inl, inr, ℕ, ◌<◌, ◌≤◌, nat_le, true, List, [], ◌∷◌, get_or, length, None, Some, Ok, codes, All, refl, sym, subst, arith}
 use Rattle.std.proofs.lemmas.Bool.Decides.{leb_tells}
 use Rattle.std.proofs.lemmas.List.Elements.{All-cons, All-nil}
@@ -205,7 +205,7 @@ session_is_sound = record {
 session_read : session_of session_bytes ≡ Some session
 session_read = subst (λ bytes. session_of bytes ≡ Some session) opened_text (printed_session_reads_back session session_is_sound forms)
 
--- ---- it goes on
+-- ---- it continues
 
 abbrev audit_words : List (List ℕ)
 audit_words = codes "audit" ∷ codes "s" ∷ codes "b" ∷ codes "m" ∷ codes "a" ∷ codes "v" ∷ codes "--draws" ∷ codes "1" ∷ []

@@ -1,4 +1,4 @@
--- The number of workers changes nothing that a search or a trial is asked, and a budget nothing but whether it is spent.
+-- The number of workers doesn't change what a search or a trial is asked, and a budget changes only whether it runs out.
 use Rattle.std.proofs.Common.{◌≡◌, ◌∙◌, inl, inr, ℕ, List, Option, Some, Result, Ok, Err, refl, sym, ap, subst}
 use Rattle.std.specs.Prelude.{⊤}
 use Rattle.command.specs.declared.trial.TrialTask.{TrialTask}
@@ -75,7 +75,7 @@ module _ (task : SearchTask) (some more : Budget) (few many : ℕ) where
   abbrev with_many : SearchTask
   with_many = record task { budget = more; workers = many }
 
-  -- the ballots of the two are the same, or both are refused
+  -- the ballots of both are the same, or both are refused
   judged_either : (judged : Result BallotFile Verdict) (d e : Outcome) → (files : List File) →
       May (AsHeld files) (go_on judged (λ ballots. Ends (Searches with_few ballots))) d →
       May (AsHeld files) (go_on judged (λ ballots. Ends (Searches with_many ballots))) e →

@@ -1,4 +1,4 @@
--- Two calls with the same words, or with words that differ in the number of workers alone, over desks that hold the same.
+-- Two calls with the same words, or with words that differ only in the number of workers, over desks that hold the same files.
 use Rattle.std.specs.Prelude.{◌≡◌, ◌≢◌, ℕ, true, List, Some, option_map}
 use Rattle.desk.specs.Count.{Rose}
 use Rattle.desk.specs.Desk.{File, held_bytes}
@@ -22,8 +22,8 @@ pub record Call : Type 0 where
 abbrev pub Failed : Call → Type 0
 Failed call = Rose call.faults_before call.faults_after
 
--- the words ask for a command that its budget may leave open: a search, a tabulation, a trial or an audit of all contests, and none with a
--- number of sets
+-- the words ask for a command that its budget may leave open: a search, a tabulation, a trial or an audit of all contests, but not one with
+-- a number of sets
 pub record MayBeSpent (words : List (List ℕ)) : Type 0 where
   pub command : Command
   pub asked_for : command_of words ≡ Some command
@@ -35,23 +35,23 @@ pub record MayChoose (words : List (List ℕ)) : Type 0 where
   pub asked_for : command_of words ≡ Some command
   pub has_choice : has_choice command ≡ true
 
--- The call was of these words, over a desk that holds these files. Nothing failed in it, memory was found, and it is no search, no
--- tabulation and no trial whose budget of nodes was spent, and no audit of a contest whose budget might be; nor is it a search for the
--- fewest NENs, of which there may be several.
+-- The call had these words, over a desk that holds these files. Nothing failed in it, and memory was found. It isn't a search, a tabulation
+-- or a trial that ran out of its budget of nodes, nor an audit of a contest whose budget might run out, nor a search for the fewest NENs,
+-- which may have several results.
 pub record IsSettled (words : List (List ℕ)) (files : List File) (call : Call) : Type 0 where
   pub answer : IsAnswered (asked words) (Some files) (Failed call) call.status call.out call.err
   pub quiet : IsQuiet (Failed call) call.out call.err
   pub memory : call.status ≢ 9
   pub unspent : MayBeSpent words → call.status ≢ 4
   pub no_choice : MayChoose words → ⊥
-  -- the nodes of an audit of all contests are as many as may be needed in each
+  -- an audit of all contests has as many nodes as may be needed in each contest
   pub suffice : (asks : Asks Contests words) → HaveNodes asks.task files
 
--- each name has the same bytes in both, or is in neither
+-- each name has the same bytes in both lists, or is in neither
 abbrev pub HoldTheSame : List File → List File → Type 0
 HoldTheSame files others = (name : List ℕ) → held_bytes name files ≡ held_bytes name others
 
--- both have one status, and their sinks took the same texts
+-- both calls have the same status, and their sinks took the same texts
 pub record AreTheSame (first second : Call) : Type 0 where
   pub status : first.status ≡ second.status
   pub to_out : List ℕ
@@ -71,7 +71,7 @@ with_workers workers (Trial task) = Trial (record task { workers = workers })
 with_workers workers (Contests task) = Contests (record task { workers = workers })
 with_workers workers command = command
 
--- both ask for the same command, but for its number of workers, or neither is a line
+-- both ask for the same command, except for its number of workers, or neither is a line
 abbrev pub DifferInWorkers : List (List ℕ) → List (List ℕ) → Type 0
 DifferInWorkers words others =
     (workers : ℕ) × (command_of others ≡ option_map (with_workers workers) (command_of words))

@@ -28,7 +28,7 @@ pub record AreAlone (contest : Id) (bytes other : ContestsBytes) : Type 0 where
   pub manifest : other.cards.manifest ≡ bytes.cards.manifest
   pub seen : numbered_records other.seen ≡ records_about contest (numbered_records bytes.seen)
 
--- If neither budget is spent, the block of a contest among others is what the same command prints for it by itself.
+-- If neither budget runs out, the block of a contest among others is what the same command prints for it by itself.
 abbrev pub BlockAlone : Type 0
 BlockAlone =
     (words others : List (List ℕ)) (files more : List File) (audit : AuditsContests words files)

@@ -1,4 +1,4 @@
--- A contest that an audit of all contests signs off is one that its own risk limit counts.
+-- A contest that an audit of all contests signs off is among those that its own risk limit counts.
 use Rattle.std.specs.Prelude.{◌≡◌, ◌≤◌, ℕ, true, List, length, Some, Vec}
 use Rattle.std.specs.List.{slice_get}
 use Rattle.std.specs.declared.alloc.Global.{Global}
@@ -20,11 +20,12 @@ module _ {words : List (List ℕ)} {files : List File} (audit : AuditsContests w
   abbrev pub cards : ℕ
   cards = length (cards_of audit.inputs.batches)
 
-  -- the first of the cards that are drawn for all contests
+  -- the first cards that are drawn for all contests
   abbrev pub drawn : ℕ → List ℕ
   drawn = drawn_cards audit.asks.task.seed cards
 
--- It holds for each contest by itself, at any number of draws up to the most, if the drawn cards were read as they are for this contest.
+-- This holds for each contest by itself, at any number of draws up to the maximum, if the drawn cards were read as they are for this
+-- contest.
 abbrev pub ContestIsCounted : Type 0
 ContestIsCounted =
     (words : List (List ℕ)) (files : List File) (audit : AuditsContests words files) (place : ℕ)

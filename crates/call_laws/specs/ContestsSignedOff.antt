@@ -1,6 +1,6 @@
--- The risk limit of each contest of audits of all contests, from the words of their calls to the count: `ContestSignedOffAreFew`, at the
--- end, is what is promised; the records before it are the premises. They are those of audits of one contest (`SignedOff.antt`), but that
--- there is no session, and the assertions are those that a search of the contest's ballots finds.
+-- The risk limit of each contest in audits of all contests, from the words of their calls to the count. `ContestSignedOffAreFew`, at the
+-- end, is the promise; the records before it are the premises. They are the same as for audits of one contest (`SignedOff.antt`), except
+-- that there is no session, and the assertions are those that a search of the contest's ballots finds.
 use Rattle.std.specs.Prelude.{◌≡◌, ◌≢◌, ℕ, ◌*◌, ◌^◌, ◌≤◌, true, List, length, All, AllPairs, Some, Ok, Vec}
 use Rattle.std.specs.List.{slice_get}
 use Rattle.std.specs.declared.alloc.Global.{Global}
@@ -23,20 +23,20 @@ use Rattle.call_laws.specs.ContestsLimit.{drawn}
 
 -- ---- what is given
 
--- What is announced before a seed is drawn: two files, one of their contests, and the terms.
+-- What is announced before a seed is drawn: two files, one of the contests in them, and the terms.
 pub record AnnouncedContest : Type 0 where
   -- the bytes of the ballots and of the manifest
   pub bytes : CardBytes
-  -- the ballots of each contest, and the cards, as they say
+  -- the ballots of each contest and the cards that these bytes say
   pub list : List BallotFile
   pub ballots_say : contests_of bytes.ballots ≡ Ok list
   pub batches : Batches
   pub manifest_says : manifest_of bytes.manifest ≡ Ok batches
-  -- the contest at one place among them
+  -- the contest, at one place among them
   pub place : ℕ
   pub ballots : BallotFile
   pub listed : slice_get list place ≡ Some ballots
-  -- it is decided, and these are its assertions
+  -- the contest is decided, and these are its assertions
   pub file : Content
   pub certificate : IsCertificateOfDecided ballots file
   -- the limit in millionths, and gamma in thousandths
@@ -53,7 +53,7 @@ module _ (announced : AnnouncedContest) (actual : List (List ℕ)) (most : ℕ) 
     pub words : List (List ℕ)
     pub files : List File
     pub audit : AuditsContests words files
-    -- the contest has its assertions, counts and risks, and is signed off, whatever comes of the other contests
+    -- the contest has its assertions, counts and risks, and is signed off, however the other contests end
     pub file : Content
     pub counts : Vec Counts Global
     pub risks : Vec ℕ Global
@@ -62,19 +62,19 @@ module _ (announced : AnnouncedContest) (actual : List (List ℕ)) (most : ℕ) 
     pub same_files : audit.bytes.cards ≡ announced.bytes
     pub same_limit : audit.asks.task.limit ≡ announced.limit
     pub same_gamma : audit.asks.task.gamma ≡ announced.gamma
-    -- it ends at one of the draws of the sequence, at whichever
+    -- it ends at any one of the draws of the sequence
     pub few : audit.asks.task.draws ≤ most
-    -- each card that it drew is missing, or was read as it is for this contest
+    -- each card that it drew is missing or was read as it is for this contest
     pub entries : List Entry
     pub seen : slice_get audit.inputs.seen announced.place ≡ Some entries
     pub true_entries : AreTrueEntries actual entries (drawn audit audit.asks.task.draws)
-    -- the sequence is what its seed draws, also after its end
+    -- the sequence is what its seed draws, even after the audit ends
     pub of_seed : sequence ≡ drawn audit most
 
 -- ---- what is promised
 
--- The actual rankings, one each for the cards, may elect another candidate than the assertions of the contest say. Then of all
--- cards ^ most sequences at most limit millionths are such that an audit signs the contest off on them.
+-- The actual rankings, one for each card, may elect a candidate other than the winner that the contest's assertions name. Then an audit
+-- signs the contest off on at most limit millionths of all cards ^ most sequences.
 abbrev pub ContestSignedOffAreFew : Type 0
 ContestSignedOffAreFew =
     (announced : AnnouncedContest) (actual : List (List ℕ)) (most : ℕ)

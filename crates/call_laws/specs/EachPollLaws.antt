@@ -1,12 +1,12 @@
--- The risk limit of whole polls with a look after each draw, from the words of their calls to the count: `EachConfirmedAreFew`, at the end,
--- is what is promised; the records before it are the premises.
+-- The risk limit of whole polls with a look after each draw, from the words of their calls to the count. `EachConfirmedAreFew`, at the end,
+-- is the promise; the records before it are the premises.
 --
--- The polls that could be held of the cards of a manifest stand side by side. They have the same manifest, assertion file, limit and
--- gamma, and each has its own seed. If some way of breaking the ties of the cards elects another candidate than the assertion file
--- says, then of all sequences of draws those are few on which one of these polls confirms all claims.
+-- Think of all polls that could be held on the cards of a manifest. They have the same manifest, assertion file, limit and gamma, and each
+-- has its own seed. If some way of breaking the ties of the cards elects a candidate other than the assertion file's winner, then one of
+-- these polls confirms all claims on few of all sequences of draws.
 --
--- No record of any card is read. The margins of the file choose the gammas, if the words say so, and are used for nothing else. It is a
--- count, and speaks of no chance.
+-- No record of any card is read. The margins of the file choose the gammas if the words say so, and are used for nothing else. The promise is
+-- a count, and says nothing about chance.
 use Rattle.std.specs.Prelude.{◌≡◌, ◌≢◌, ℕ, ◌*◌, ◌^◌, ◌≤◌, List, length, All, AllPairs, Ok, Option, IsTrue}
 use Rattle.desk.specs.Desk.{File}
 use Rattle.manifest.specs.Cards.{Batches, cards_of}
@@ -21,8 +21,8 @@ use Rattle.raire_cli.specs.PollsEach.{IsEachPollOf, cards, claims, drawn, is_con
 
 -- ---- a poll that confirms
 
--- A poll that confirms all claims is one that the risk limit of polls counts, where the cards that were drawn were read as they are;
--- also among sequences of more draws.
+-- If the drawn cards were read as they are, a poll that confirms all claims is among those that the risk limit of polls counts. This also
+-- holds among longer sequences.
 abbrev pub EachConfirmedIsCounted : Type 0
 EachConfirmedIsCounted =
     (words : List (List ℕ)) (files : List File) (poll : IsEachPollOf words files)
@@ -46,38 +46,38 @@ pub record AnnouncedEachPoll : Type 0 where
   pub file : Content
   pub says_cards : manifest_of manifest ≡ Ok batches
   pub says_claims : assertion_file_of assertions ≡ Ok file
-  -- the limit in millionths, and gamma in thousandths, or none where each claim has the gamma that fits its margin
+  -- the limit in millionths, and gamma in thousandths, or none if each claim has the gamma that fits its margin
   pub limit : ℕ
   pub gamma : Option ℕ
 
 -- ---- what is counted
 
--- The cards have these actual rankings, and no poll goes beyond this many draws.
+-- The cards have these actual rankings, and no poll goes beyond this number of draws.
 module _ (announced : AnnouncedEachPoll) (actual : List (List ℕ)) (most : ℕ) where
   -- a poll of what was announced confirms all claims, and its seed draws this sequence
   pub record IsEachConfirmedOn (sequence : List ℕ) : Type 0 where
-    -- `run` promises so where a poll ends with status 0 (`IsPolledEach`)
+    -- `run` promises this if a poll ends with status 0 (`IsPolledEach`)
     pub words : List (List ℕ)
     pub files : List File
     pub poll : IsEachPollOf words files
     pub confirmed : IsTrue (is_confirmed_by poll)
-    -- it is of the files and the terms that were announced
+    -- it uses the files and the terms that were announced
     pub same_manifest : poll.bytes.manifest ≡ announced.manifest
     pub same_assertions : poll.bytes.assertions ≡ announced.assertions
     pub same_limit : poll.asks.task.limit ≡ announced.limit
     pub same_gamma : poll.asks.task.gamma ≡ announced.gamma
-    -- it ends at one of the draws of the sequence, at whichever
+    -- it ends at any one of the draws of the sequence
     pub few : poll.asks.task.draws ≤ most
-    -- each card that it drew is missing, or was read as it is
+    -- each card that it drew is missing or was read as it is
     pub true_entries : AreTrueEntries actual poll.inputs.entries
         (drawn poll.asks.task poll.inputs poll.asks.task.draws)
-    -- the sequence is what its seed draws, also after its end
+    -- the sequence is what its seed draws, even after the poll ends
     pub of_seed : sequence ≡ drawn poll.asks.task poll.inputs most
 
 -- ---- what is promised
 
--- The actual rankings, one each for the cards, may elect another candidate than the assertion file says. Then of all cards ^ most
--- sequences at most limit millionths are such that a poll confirms all claims on them.
+-- The actual rankings, one for each card, may elect a candidate other than the assertion file's winner. Then a poll confirms all claims on
+-- at most limit millionths of all cards ^ most sequences.
 abbrev pub EachConfirmedAreFew : Type 0
 EachConfirmedAreFew =
     (announced : AnnouncedEachPoll) (actual : List (List ℕ)) (most : ℕ)

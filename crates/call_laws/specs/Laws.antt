@@ -1,5 +1,5 @@
--- What the workers and the budget of a search or a trial change, how many nodes or sets suffice for it, and which sessions of an audit
--- the risk limit counts.
+-- What the number of workers and the budget change in a search or a trial, how many nodes or sets are enough, and which sessions of an
+-- audit the risk limit counts.
 use Rattle.std.specs.Prelude.{◌≡◌, ℕ, ◌≤◌, List, length, Option, Some, IsTrue, ⊤}
 use Rattle.desk.specs.Desk.{File}
 use Rattle.manifest.specs.Linked.{linked_of}
@@ -28,13 +28,13 @@ use Rattle.contest_search.specs.Budget.{nodes_for, sets_of}
 use Rattle.contest_search.specs.Contest.{candidate_count, IsOther, IsWon}
 use Rattle.raire_cli.specs.Audits.{GoesOn, cards, claims, drawn}
 
--- the words ask for this search, but for the number of its workers
+-- the words ask for this search, with this number of workers
 abbrev pub AskForWorkers : SearchTask → ℕ → List (List ℕ) → Type 0
 AskForWorkers task workers words =
     command_of words ≡ Some (Search (record task { workers = workers }))
 
--- If two searches differ in their workers only, each may end in every way in which the other may, whatever files there are, and also if
--- the desk or memory fails.
+-- If two searches differ only in their number of workers, each may end in every way in which the other may, whatever files there are, even
+-- if the desk or memory fails.
 abbrev pub WorkersAskTheSame : Type 0
 WorkersAskTheSame =
     (task : SearchTask) (some more : ℕ) (words others : List (List ℕ)) →
@@ -42,7 +42,7 @@ WorkersAskTheSame =
     (held : Option (List File)) (due : Outcome) → IsDue (ByDesk held ⊤) (asked words) due →
     IsDue (ByDesk held ⊤) (asked others) due
 
--- Over the same files they come to the same status and bytes, but for a budget that is spent.
+-- Over the same files they come to the same status and bytes, unless a budget runs out.
 abbrev pub WorkersComeToTheSame : Type 0
 WorkersComeToTheSame =
     (task : SearchTask) (some more : ℕ) (words others : List (List ℕ)) →
@@ -51,7 +51,7 @@ WorkersComeToTheSame =
     MayCome (AsHeld files) (asked others) other →
     SameButBudget due other
 
--- So it is of two trials.
+-- The same holds for two trials.
 abbrev pub TrialsComeToTheSame : Type 0
 TrialsComeToTheSame =
     (task : TrialTask) (some more : ℕ) (words others : List (List ℕ)) →
@@ -61,7 +61,7 @@ TrialsComeToTheSame =
     MayCome (AsHeld files) (asked others) other →
     SameButBudget due other
 
--- With a number of sets there is no such budget: two searches that differ in their workers alone come to the same.
+-- With a number of sets there is no exception: two searches that differ only in their number of workers come to the same status and bytes.
 abbrev pub SetsComeToTheSame : Type 0
 SetsComeToTheSame =
     (task : SearchTask) (sets some more : ℕ) (words others : List (List ℕ)) →
@@ -70,7 +70,7 @@ SetsComeToTheSame =
     (files : List File) (due other : Outcome) → MayCome (AsHeld files) (asked words) due →
     MayCome (AsHeld files) (asked others) other → due ≡ other
 
--- And so do two trials.
+-- So do two trials.
 abbrev pub TrialsBySetsComeToTheSame : Type 0
 TrialsBySetsComeToTheSame =
     (task : TrialTask) (sets some more : ℕ) (words others : List (List ℕ)) →
@@ -79,7 +79,7 @@ TrialsBySetsComeToTheSame =
     (files : List File) (due other : Outcome) → MayCome (AsHeld files) (asked words) due →
     MayCome (AsHeld files) (asked others) other → due ≡ other
 
--- Two searches for the fewest NENs that differ in their workers alone come to the same status.
+-- Two searches for the fewest NENs that differ only in their number of workers come to the same status.
 abbrev pub FewestComeToTheSameStatus : Type 0
 FewestComeToTheSameStatus =
     (task : SearchFewestTask) (some more : ℕ) (words others : List (List ℕ)) →
@@ -88,8 +88,8 @@ FewestComeToTheSameStatus =
     (files : List File) (due other : Outcome) → MayCome (AsHeld files) (asked words) due →
     MayCome (AsHeld files) (asked others) other → due.status ≡ other.status
 
--- Two searches of the same contest with the same floor and plan come to the same status and bytes, by nodes or by sets, but for a budget
--- that is spent.
+-- Two searches of the same contest with the same floor and plan, by nodes or by sets, come to the same status and bytes, unless a budget
+-- runs out.
 abbrev pub BudgetsComeToTheSame : Type 0
 BudgetsComeToTheSame =
     (task : SearchTask) (some more : Budget) (few many : ℕ) (words others : List (List ℕ)) →
@@ -99,26 +99,26 @@ BudgetsComeToTheSame =
     MayCome (AsHeld files) (asked others) other →
     SameButBudget due other
 
--- The default suffices for up to nine candidates.
+-- The default number of nodes is enough for up to nine candidates.
 abbrev pub DefaultSuffices : Type 0
 DefaultSuffices =
     (ballots : BallotFile) (tabulated : List ℕ) (winner c : ℕ) → IsOther ballots winner c →
     candidate_count ballots ≤ 9 →
     nodes_for ballots tabulated winner c ≤ DEFAULT_NODES
 
--- The most sets suffice for up to twenty, in a search or a trial.
+-- The maximum number of sets is enough for a search or a trial of up to twenty candidates.
 abbrev pub MostSetsSuffice : Type 0
 MostSetsSuffice =
     (ballots : BallotFile) (winner : ℕ) → IsWon ballots winner → candidate_count ballots ≤ 20 →
     sets_of ballots winner ≤ MOST_SETS
 
--- They do if an assertion file is checked.
+-- It is enough to check an assertion file of up to twenty candidates.
 abbrev pub MostSetsSufficeToCheck : Type 0
 MostSetsSufficeToCheck =
     (file : FileContent) → IsSound file → count_in file ≤ 20 →
     standing_sets (count_in file) file.winner (assertions_of file) ≤ MOST_SETS
 
--- They do if claims are adopted.
+-- It is enough to adopt claims about up to twenty candidates.
 abbrev pub MostSetsSufficeToAdopt : Type 0
 MostSetsSufficeToAdopt =
     (ballots : BallotFile) (claims : Claimed) → AreCandidates ballots.candidates →
@@ -126,8 +126,8 @@ MostSetsSufficeToAdopt =
     standing_sets (candidate_count ballots) claims.winner
     (each_once (candidate_count ballots) claims.assertions) ≤ MOST_SETS
 
--- A session that an audit signs off is one that the risk limit counts, if the drawn cards were read as they are; also among longer
--- sequences.
+-- If the drawn cards were read as they are, a session that an audit signs off is among those that the risk limit counts. This also holds
+-- among longer sequences.
 abbrev pub SignedOffIsCounted : Type 0
 SignedOffIsCounted =
     (words : List (List ℕ)) (files : List File) (next : Content) (on : GoesOn words files next)

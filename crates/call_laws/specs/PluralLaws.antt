@@ -1,6 +1,6 @@
--- The risk limit of whole audits of a plurality contest, from the words of their calls to the count: `PluralSignedOffAreFew`, at the
--- end, is what is promised; the records before it are the premises. They are those of audits by assertions (`SignedOff.antt`), with
--- another count of who has won.
+-- The risk limit of whole audits of a plurality contest, from the words of their calls to the count. `PluralSignedOffAreFew`, at the end, is
+-- the promise; the records before it are the premises. They are the same as for audits by assertions (`SignedOff.antt`), with a different
+-- count of who won.
 use Rattle.std.specs.Prelude.{◌≡◌, ◌≢◌, ℕ, ◌*◌, ◌^◌, ◌≤◌, List, length, All, AllPairs, Some, IsTrue}
 use Rattle.desk.specs.Desk.{File}
 use Rattle.manifest.specs.Cards.{cards_of}
@@ -21,8 +21,8 @@ drawn_in inputs = drawn inputs.session (recorded inputs) inputs.entries
 
 -- ---- a session that is signed off
 
--- A session that such an audit signs off is one that the risk limit counts, if the drawn cards were read as they are; also among longer
--- sequences.
+-- If the drawn cards were read as they are, a session that an audit of a plurality contest signs off is among those that the risk limit
+-- counts. This also holds among longer sequences.
 abbrev pub PluralSignedOffIsCounted : Type 0
 PluralSignedOffIsCounted =
     (words : List (List ℕ)) (files : List File) (next : Content)
@@ -39,7 +39,7 @@ PluralSignedOffIsCounted =
 pub record AnnouncedPlurality : Type 0 where
   -- the bytes of the ballots and of the manifest
   pub bytes : CardBytes
-  -- the ballots of the contest, the cards, and who has won, as they say
+  -- the ballots of the contest, the cards and the winner that these bytes say
   pub counted : Counted
   pub say : SayCounted (Some counted.ballots.contest) bytes counted
   -- the limit in millionths, and gamma in thousandths
@@ -52,7 +52,7 @@ pub record AnnouncedPlurality : Type 0 where
 module _ (announced : AnnouncedPlurality) (actual : List (List ℕ)) (most : ℕ) where
   -- an audit of what was announced is signed off, and its seed draws this sequence
   pub record IsPluralSignedOffOn (sequence : List ℕ) : Type 0 where
-    -- `run` promises this if such an audit ends with status 0 (`IsPluralityAudited`)
+    -- `run` promises this if an audit of a plurality contest ends with status 0 (`IsPluralityAudited`)
     pub words : List (List ℕ)
     pub files : List File
     pub next : Content
@@ -63,18 +63,18 @@ module _ (announced : AnnouncedPlurality) (actual : List (List ℕ)) (most : ℕ
     pub same_contest : on.inputs.session.contest ≡ announced.counted.ballots.contest
     pub same_limit : on.inputs.session.session.limit ≡ announced.limit
     pub same_gamma : on.inputs.session.session.gamma ≡ announced.gamma
-    -- it ends at one of the draws of the sequence, at whichever
+    -- it ends at any one of the draws of the sequence
     pub few : on.asks.task.draws ≤ most
-    -- each card that it drew is missing, or was read as it is
+    -- each card that it drew is missing or was read as it is
     pub true_entries :
         AreTrueEntries actual on.inputs.entries (drawn_in on.inputs on.asks.task.draws)
-    -- the sequence is what its seed draws, also after its end
+    -- the sequence is what its seed draws, even after the audit ends
     pub of_seed : sequence ≡ drawn_in on.inputs most
 
 -- ---- what is promised
 
--- On the cards another candidate has as many first preferences as the winner, or more. Then of all cards ^ most sequences at most limit
--- millionths are such that an audit is signed off on them.
+-- On the cards another candidate has at least as many first preferences as the winner. Then an audit is signed off on at most limit
+-- millionths of all cards ^ most sequences.
 abbrev pub PluralSignedOffAreFew : Type 0
 PluralSignedOffAreFew =
     (announced : AnnouncedPlurality) (actual : List (List ℕ)) (most : ℕ)

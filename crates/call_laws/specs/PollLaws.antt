@@ -1,11 +1,11 @@
 -- The risk limit of whole polls, from the words of their calls to the count. `ConfirmedAreFew`, the last record, is the promise; the
 -- records before it are the premises.
 --
--- Think of all polls that could be held on the cards of a manifest. They have the same manifest, assertion file, limit and gamma, and
--- each has its own seed. If some way of breaking the ties of the cards elects another candidate than the assertion file says, then one of
+-- Think of all polls that could be held on the cards of a manifest. They have the same manifest, assertion file, limit and gamma, and each
+-- has its own seed. If some way of breaking the ties of the cards elects a candidate other than the assertion file's winner, then one of
 -- these polls confirms all claims on few of all sequences of draws.
 --
--- No record of any card is read, and the margins of the file aren't used. It is a count, and says nothing about chance.
+-- No record of any card is read, and the margins of the file aren't used. The promise is a count, and says nothing about chance.
 use Rattle.std.specs.Prelude.{◌≡◌, ◌≢◌, ℕ, ◌*◌, ◌^◌, ◌≤◌, List, length, All, AllPairs, Ok, IsTrue}
 use Rattle.desk.specs.Desk.{File}
 use Rattle.manifest.specs.Cards.{Batches, cards_of}
@@ -21,8 +21,8 @@ use Rattle.raire_cli.specs.Polls.{IsPollOf, cards, drawn, is_confirmed_by}
 
 -- ---- a poll that confirms
 
--- A poll that confirms all claims is one that the risk limit of polls counts, if the drawn cards were read as they are; also among longer
--- sequences.
+-- If the drawn cards were read as they are, a poll that confirms all claims is among those that the risk limit of polls counts. This also
+-- holds among longer sequences.
 abbrev pub ConfirmedIsCounted : Type 0
 ConfirmedIsCounted =
     (words : List (List ℕ)) (files : List File) (poll : IsPollOf words files)
@@ -61,23 +61,23 @@ module _ (announced : AnnouncedPoll) (actual : List (List ℕ)) (most : ℕ) whe
     pub files : List File
     pub poll : IsPollOf words files
     pub confirmed : IsTrue (is_confirmed_by poll)
-    -- it is of the files and the terms that were announced
+    -- it uses the files and the terms that were announced
     pub same_manifest : poll.bytes.manifest ≡ announced.manifest
     pub same_assertions : poll.bytes.assertions ≡ announced.assertions
     pub same_limit : poll.asks.task.limit ≡ announced.limit
     pub same_gamma : poll.asks.task.gamma ≡ announced.gamma
-    -- it ends at one of the draws of the sequence, at whichever
+    -- it ends at any one of the draws of the sequence
     pub few : poll.asks.task.draws ≤ most
-    -- each card that it drew is missing, or was read as it is
+    -- each card that it drew is missing or was read as it is
     pub true_entries : AreTrueEntries actual poll.inputs.entries
         (drawn poll.asks.task poll.inputs poll.asks.task.draws)
-    -- the sequence is what its seed draws, also after its end
+    -- the sequence is what its seed draws, even after the poll ends
     pub of_seed : sequence ≡ drawn poll.asks.task poll.inputs most
 
 -- ---- what is promised
 
--- The actual rankings, one each for the cards, may elect another candidate than the assertion file says. Then of all cards ^ most
--- sequences at most limit millionths are such that a poll confirms all claims on them.
+-- The actual rankings, one for each card, may elect a candidate other than the assertion file's winner. Then a poll confirms all claims on
+-- at most limit millionths of all cards ^ most sequences.
 abbrev pub ConfirmedAreFew : Type 0
 ConfirmedAreFew =
     (announced : AnnouncedPoll) (actual : List (List ℕ)) (most : ℕ)

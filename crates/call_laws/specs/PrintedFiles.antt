@@ -1,4 +1,4 @@
--- What a search, a trim or an adoption printed, and a later call that is given it: two calls of `run`, one after the other.
+-- What a search, a trim or an adoption printed, and a later call that is given it: two successive calls of `run`.
 use Rattle.std.specs.Prelude.{◌≡◌, ◌⊎◌, ◌≤◌, ℕ, List, ◌++◌, length, Option, Some, None, Ok}
 use Rattle.budget.specs.declared.budget.Budget.{Budget}
 use Rattle.budget.specs.declared.budget.Budget.TheVariants.{Sets}
@@ -19,8 +19,8 @@ use Rattle.raire_cli.specs.Confirmation.{AsksFor}
 use Rattle.raire_cli.specs.Fewest.{AsksForFewest}
 use Rattle.raire_cli.specs.Held.{AreBallots}
 
--- The call was of these words, over a desk that holds these files. It ended with status 0, and `out`, which reports what it takes, took
--- this text.
+-- The call had these words, over a desk that holds these files. It ended with status 0, and `out`, which reports what it takes, took this
+-- text.
 pub record HasPrinted (words : List (List ℕ)) (files : List File) (call : Call)
     (text : List ℕ) : Type 0 where
   pub answer : IsAnswered (asked words) (Some files) (Failed call) call.status call.out call.err
@@ -31,8 +31,8 @@ pub record HasPrinted (words : List (List ℕ)) (files : List File) (call : Call
 
 -- ---- the files of the later call
 
--- Under the one name its desk holds the ballots that the first call read under its own, and under the other this text, which isn't too
--- long for a file.
+-- Under the first name, the desk of the later call holds the ballots that the first call read under its own name. Under the second name it
+-- holds this text, which isn't too long for a file.
 pub record HoldsPrinted (own : List ℕ) (files more : List File)
     (text ballots assertions : List ℕ) : Type 0 where
   pub same_ballots : held_bytes ballots more ≡ held_bytes own files
@@ -45,7 +45,7 @@ pub record AsksToAdopt (words : List (List ℕ)) (files : List File) (ballots : 
   pub adopt : Asks Adopt words
   pub are : AreBallots files adopt.task.ballots adopt.task.contest ballots
 
--- Under this name it holds a manifest that is accepted, and that has a card of each ballot of the search or the adoption.
+-- Under this name the desk of the later call holds a manifest that is accepted and has a card for each ballot of the search or the adoption.
 pub record HoldsCards (words : List (List ℕ)) (files more : List File)
     (manifest : List ℕ) : Type 0 where
   pub bytes : List ℕ
@@ -67,13 +67,13 @@ pub record ChecksTheSame (contest : Option Id) (budget : Budget) (others : List 
   pub same_contest : asks.task.contest ≡ contest
   pub same_budget : asks.task.budget ≡ budget
 
--- they ask that a session be opened, with them
+-- they ask to open a session, with the contest and the budget of the first call
 pub record OpensTheSame (contest : Option Id) (budget : Budget) (others : List (List ℕ)) : Type 0 where
   pub asks : Asks Open others
   pub same_contest : asks.task.contest ≡ contest
   pub same_budget : asks.task.budget ≡ budget
 
--- they ask for a trim, with them
+-- they ask for a trim, with the contest and the budget of the first call
 pub record TrimsTheSame (contest : Option Id) (budget : Budget) (others : List (List ℕ)) : Type 0 where
   pub asks : Asks Trim others
   pub same_contest : asks.task.contest ≡ contest
@@ -81,7 +81,7 @@ pub record TrimsTheSame (contest : Option Id) (budget : Budget) (others : List (
 
 -- ---- the laws
 
--- A check accepts what a search printed: it ends with status 0, if nothing fails in it and memory is found.
+-- A check accepts what a search printed: it ends with status 0 if nothing fails in it and memory is found.
 abbrev pub PrintedIsAccepted : Type 0
 PrintedIsAccepted =
     (words others : List (List ℕ)) (search : Asks Search words)
@@ -90,7 +90,7 @@ PrintedIsAccepted =
     HoldsPrinted search.task.ballots files more text check.asks.task.ballots check.asks.task.assertions →
     IsSettled others more second → second.status ≡ 0
 
--- A session is opened with it, if each ballot has a card.
+-- A session is opened with what a search printed if each ballot has a card.
 abbrev pub PrintedIsOpened : Type 0
 PrintedIsOpened =
     (words others : List (List ℕ)) (search : Asks Search words)
@@ -99,7 +99,7 @@ PrintedIsOpened =
     HoldsPrinted search.task.ballots files more text opening.asks.task.ballots opening.asks.task.assertions →
     HoldsCards words files more opening.asks.task.manifest → IsSettled others more second → second.status ≡ 0
 
--- The same holds of what a search for the fewest NENs printed, with as many sets.
+-- The same holds for what a search for the fewest NENs printed, with the same number of sets.
 abbrev pub FewestIsAccepted : Type 0
 FewestIsAccepted =
     (words others : List (List ℕ)) (search : Asks SearchFewest words)
@@ -136,7 +136,7 @@ AdoptedIsAccepted =
     HoldsPrinted adopt.task.ballots files more text check.asks.task.ballots check.asks.task.assertions →
     IsSettled others more second → second.status ≡ 0
 
--- A session is opened with it, if each ballot has a card.
+-- A session is opened with what an adoption printed if each ballot has a card.
 abbrev pub AdoptedIsOpened : Type 0
 AdoptedIsOpened =
     (words others : List (List ℕ)) (adopt : Asks Adopt words)
@@ -146,7 +146,7 @@ AdoptedIsOpened =
     HoldsPrinted adopt.task.ballots files more text opening.asks.task.ballots opening.asks.task.assertions →
     HoldsCards words files more opening.asks.task.manifest → IsSettled others more second → second.status ≡ 0
 
--- What a trim printed is printed as it is by another trim, unless the budget is spent.
+-- Another trim prints what a trim printed as it is, unless the budget runs out.
 abbrev pub TrimmedIsTrimmed : Type 0
 TrimmedIsTrimmed =
     (words others : List (List ℕ)) (trim : Asks Trim words)

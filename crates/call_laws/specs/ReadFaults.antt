@@ -1,4 +1,4 @@
--- Which file is named if the desk fails.
+-- Which file the call names if the desk fails.
 use Rattle.std.specs.Prelude.{◌≡◌, ℕ, List, Option, Some, ⊤}
 use Rattle.desk.specs.Desk.{File}
 use Rattle.desk.specs.declared.served.Served.{Served}
@@ -9,7 +9,7 @@ use Rattle.command_line.specs.Line.{command_of}
 use Rattle.command_line.specs.declared.commands.Command.TheVariants.{Check}
 use Rattle.raire_cli.specs.Answers.{asked}
 
--- A desk that has begun nothing before fails at the second file of a check: the assertion file is named, and not the ballot file.
+-- If a desk that has begun no file before fails at the second file of a check, the assertion file is named, not the ballot file.
 abbrev pub SecondIsNamed : Type 0
 SecondIsNamed =
     (words : List (List ℕ)) (task : CheckTask) → command_of words ≡ Some (Check task) →

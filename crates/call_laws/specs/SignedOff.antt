@@ -1,16 +1,16 @@
 -- The risk limit of whole audits, from the words of their calls to the count. `SignedOffAreFew`, the last record, is the promise; the
 -- records before it are the premises.
 --
--- Think of all audits that could be held of one contest. They have the same files, limit and gamma, and each has its own session and
--- seed. If some way of breaking the ties of the cards elects another candidate than the assertion file says, then one of these audits is
+-- Think of all audits that could be held of one contest. They have the same files, limit and gamma, and each has its own session and seed.
+-- If some way of breaking the ties of the cards elects a candidate other than the assertion file's winner, then one of these audits is
 -- signed off on few of all sequences of draws.
 --
--- Each audit may choose these, even after a look at its draws: how many rounds there are and where they end, which of the drawn cards are
--- missing, what is noted of cards that weren't drawn, its words, and the names of its files. Several seeds may draw the same cards: a
--- sequence counts once.
+-- Even after a look at its draws, each audit may choose the number of rounds and where they end, which of the drawn cards are missing, what
+-- is noted for cards that weren't drawn, its words, and the names of its files. Several seeds may draw the same cards, but a sequence counts
+-- only once.
 --
--- It is a count, and says nothing about chance. An audit that begins again with another seed draws another sequence. If you may try seeds
--- until one audit is signed off, you will find one of the few.
+-- The promise is a count, and says nothing about chance. An audit that begins again with another seed draws another sequence. If you may try
+-- seeds until one audit is signed off, you will find one of the few.
 use Rattle.std.specs.Prelude.{◌≡◌, ◌≢◌, ℕ, ◌*◌, ◌^◌, ◌≤◌, List, length, All, AllPairs, Some, IsTrue}
 use Rattle.desk.specs.Desk.{File}
 use Rattle.manifest.specs.Cards.{cards_of}
@@ -31,11 +31,11 @@ pub record Announced : Type 0 where
   pub bytes : FileBytes
   -- the ballots, the cards and the assertions that they say
   pub basis : Basis
-  -- they say so of the contest of the assertion file
+  -- they say this about the contest of the assertion file
   pub say : Say (Some basis.file.contest) bytes basis
-  -- The limit in millionths, and gamma in thousandths. They are announced since what is promised doesn't hold of terms that are chosen
-  -- by a look at the draws: two cards are recorded for one candidate, and in truth there is a tie; of the 128 sequences of seven draws a
-  -- limit of 250,600 allows 32. With gamma 1 it is 32 that may be signed off, with gamma 500 it is 12, and with one or the other 34.
+  -- The limit in millionths, and gamma in thousandths. They are announced because the promise doesn't hold for terms that are chosen after a
+  -- look at the draws. For example, two cards are recorded for one candidate, but there is actually a tie. A limit of 250,600 allows 32 of the
+  -- 128 sequences of seven draws. With gamma 1, 32 sequences may be signed off; with gamma 500, 12; and with either of the two gammas, 34.
   pub limit : ℕ
   pub gamma : ℕ
 
@@ -45,7 +45,7 @@ pub record Announced : Type 0 where
 module _ (announced : Announced) (actual : List (List ℕ)) (most : ℕ) where
   -- an audit of what was announced is signed off, and its seed draws this sequence
   pub record IsSignedOffOn (sequence : List ℕ) : Type 0 where
-    -- a call goes on with its session, which then is signed off: `run` promises this if an audit ends with status 0 (`IsAudited`)
+    -- a call continues its session, which is then signed off: `run` promises this if an audit ends with status 0 (`IsAudited`)
     pub words : List (List ℕ)
     pub files : List File
     pub next : Content
@@ -56,17 +56,17 @@ module _ (announced : Announced) (actual : List (List ℕ)) (most : ℕ) where
     -- its session has the terms that were announced
     pub same_limit : on.inputs.session.session.limit ≡ announced.limit
     pub same_gamma : on.inputs.session.session.gamma ≡ announced.gamma
-    -- it ends at one of the draws of the sequence, at whichever
+    -- it ends at any one of the draws of the sequence
     pub few : on.asks.task.draws ≤ most
-    -- each card that it drew is missing, or was read as it is
+    -- each card that it drew is missing or was read as it is
     pub true_entries : AreTrueEntries actual on.inputs.entries (drawn on.inputs on.asks.task.draws)
-    -- the sequence is what its seed draws, also after its end
+    -- the sequence is what its seed draws, even after the audit ends
     pub of_seed : sequence ≡ drawn on.inputs most
 
 -- ---- what is promised
 
--- The actual rankings, one each for the cards, may elect another candidate than the assertion file says. Then of all cards ^ most
--- sequences at most limit millionths are such that an audit is signed off on them.
+-- The actual rankings, one for each card, may elect a candidate other than the assertion file's winner. Then an audit is signed off on at
+-- most limit millionths of all cards ^ most sequences.
 abbrev pub SignedOffAreFew : Type 0
 SignedOffAreFew =
     (announced : Announced) (actual : List (List ℕ)) (most : ℕ) (sequences : List (List ℕ)) →

@@ -1,4 +1,4 @@
-//! What follows of the top call: laws over calls, over the files that they read, and over all draws that a seed could give.
+//! What follows for the top call: laws about calls, about the files that they read, and about all draws that a seed could give.
 #![tactic(auto)]
 
 pub mod laws;

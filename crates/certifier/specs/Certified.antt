@@ -24,7 +24,7 @@ pub record IsCertified (n : ℕ) (records : List (List ℕ)) (winner best nodes 
   pub order : certificate_order n winner (low n records) best ≡ Some x.order
   pub within : (c : ℕ) → c < n → c ≢ winner → IsWithin n (low n records) best x.order nodes c
 
--- last is the least alternative winner with a count above nodes
+-- last is the lowest-numbered alternative winner with a count above nodes
 pub record IsSpent (n : ℕ) (records : List (List ℕ)) (winner best nodes last : ℕ) : Type 0 where
   pub order : List ℕ
   pub order_is : certificate_order n winner (low n records) best ≡ Some order

@@ -50,7 +50,7 @@ pub fn listed(alloc: Global, claims: &BTreeMap<Assertion, u32>) -> Result<Vec<Cl
 ///
 /// For each alternative winner two counts are taken of suffixes that end in that candidate and aren't whole orders. The first counts those
 /// whose low is below the best margin. The second counts those whose low is at most the best margin and that come before the certificate's
-/// order, both read backwards. The answer is `Spent`, with the least alternative winner for whom a count is above `nodes`, exactly if there
+/// order, both read backwards. The answer is `Spent`, with the lowest-numbered alternative winner for whom a count is above `nodes`, exactly if there
 /// is one. The other error means that memory ran out.
 ///
 /// The alternative winners are divided among the workers, each with its own tallies. A worker goes into each set of candidates once for

@@ -17,7 +17,7 @@ const FIRST_SORT: usize = 1 << 18;
 
 /// Assertions with their margins, each once.
 ///
-/// To a contract, they are the entries in the fixed order.
+/// In a contract, they are the entries in the fixed order.
 #[derive(Drop)]
 pub struct Claims {
     // The entries as they were put: if several have the same assertion, the last one counts. Putting each in its place at once would take

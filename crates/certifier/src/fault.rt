@@ -11,7 +11,7 @@ use std::fmt;
 pub enum CertFault {
     /// More suffixes count for this alternative winner than the budget allows. It is the least such candidate.
     Spent { last: Candidate },
-    /// There isn't enough memory.
+    /// Memory could not be allocated.
     Memory,
 }
 

@@ -1,4 +1,4 @@
--- A check comes to one end, and what the checker names is among the candidates.
+-- A check has one end, and what the checker names is among the candidates.
 use Rattle.std.proofs.Common.{◌≡◌, ℕ, ◌+◌, ◌<◌, Bool, true, false, ◌==◌, if◌then◌else◌, List, [], ◌∷◌, length, Option, None, Some, IfSome, Ok, Err, IsTrue, refl, sym, ap, subst, ◌∙◌}
 use Rattle.std.specs.Prelude.{⊤, option_and_then}
 use Rattle.std.specs.Bool.{MatchBool}
@@ -180,7 +180,7 @@ pub agrees : (task : CheckTask) → Agree Same (script task)
 agrees task = λ bytes. go_on-agrees (told (refused_ballots task.ballots) (ballots_of bytes task.contest)) _
     (λ ballots. ballots-agree task.assertions task.budget ballots)
 
--- a file that the checker accepts has no verdict but yes
+-- the only verdict on a file that the checker accepts is yes
 pub accepted_is_yes : AcceptedIsYes
 accepted_is_yes budget ballots file verdict known = (only, λ is. (Ok Accepted, known, ap Some (sym is))) where
   only : Checks budget ballots file verdict → verdict ≡ Answered Done (yes_text file)

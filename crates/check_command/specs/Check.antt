@@ -93,7 +93,7 @@ verdict_on file (Err (SpentAt last)) = Some (Answered Spent (spent_at (id_of fil
 verdict_on file (Err (SpentSets sets)) = Some (Answered Spent (spent_sets sets))
 verdict_on file (Err Memory) = None
 
--- a check comes to the verdict on an answer that the checker may give
+-- a check ends with the verdict on an answer that the checker may give
 abbrev pub Checks : Budget → BallotFile → Content → Verdict → Type 0
 Checks budget ballots file verdict =
     (answer : Answer) × IsAnswer budget ballots file answer × (verdict_on file answer ≡ Some verdict)

@@ -1,4 +1,4 @@
--- What a check comes to of a file that the checker accepts.
+-- How a check of a file that the checker accepts ends.
 use Rattle.std.specs.Prelude.{◌≡◌, ◌↔◌, Ok}
 use Rattle.budget.specs.declared.budget.Budget.{Budget}
 use Rattle.ballots.specs.Ballots.{BallotFile}
@@ -9,7 +9,7 @@ use Rattle.cli_base.specs.Outcome.{Verdict, Answered}
 use Rattle.cli_base.specs.declared.outcome.AnswerKind.TheVariants.{Done}
 use Rattle.check_command.specs.Check.{Checks, yes_text}
 
--- A check of a file that the checker accepts ends with yes, and with nothing besides.
+-- A check of a file that the checker accepts ends with yes, and with nothing else.
 abbrev pub AcceptedIsYes : Type 0
 AcceptedIsYes =
     (budget : Budget) (ballots : BallotFile) (file : Content) (verdict : Verdict) →

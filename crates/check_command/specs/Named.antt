@@ -5,7 +5,7 @@ use Rattle.assertions.specs.Assertions.{is_proper}
 use Rattle.cover_checker.specs.declared.checked.Checked.{Checked}
 use Rattle.cover_checker.specs.declared.checked.Checked.TheVariants.{OtherContest, OtherWinner, OtherMargin, Stands, NotLeast, NotAlternative, Harder, OtherDraws, Accepted}
 
--- what it names is a candidate, an order or an assertion of n candidates
+-- the answer names a candidate, an order or an assertion of n candidates
 abbrev pub IsAmong : ℕ → Checked → Type 0
 IsAmong n OtherContest = ⊤
 IsAmong n (OtherWinner winner) = winner < n

@@ -33,7 +33,7 @@ use report::{spent_at, spent_sets};
 use std::alloc::Global;
 use std::thread::Threads;
 
-// The votes are counted by this many, if they weren't as they were read.
+// The number of workers that count the votes, if they weren't counted as they were read.
 const WORKERS: u32 = 1;
 
 /// Whether the assertion file holds of the ballots of the contest.
@@ -56,7 +56,7 @@ pub fn answer<R: AllocGlobal + Threads + Sync, D: Desk>(
     after_votes(rt, desk, &votes, &task.assertions, task.budget)
 }
 
-/// A check of votes that are read: whether the assertion file of this name holds of them.
+/// Checks votes that have been read: whether the assertion file of this name holds of them.
 pub fn after_votes<R: AllocGlobal + Threads + Sync, D: Desk>(
     rt: &R,
     desk: &mut D,
@@ -137,7 +137,7 @@ fn found_answer(alloc: Global, file: &AssertionFile, found: Checked) -> Result<A
     }
 }
 
-/// The answer to a difference in words.
+/// The answer for a difference in words.
 pub fn difference(alloc: Global, text: &str) -> Result<Answer, Refusal>
     ensures { IsOneOrMemory (λ verdict. verdict ≡ differs text.now) (due result) }
 {
@@ -171,7 +171,7 @@ pub fn order_stands(alloc: Global, names: &[Name], order: &Order) -> Result<Answ
     difference(alloc, text.as_str())
 }
 
-/// The answer if the winner is another one, of candidates with these names.
+/// The answer if another candidate is the winner, by these names of the candidates.
 pub fn other_winner(alloc: Global, names: &[Name], winner: Candidate) -> Result<Answer, Refusal>
     requires { winner < length names.now }
     ensures { IsOneOrMemory (λ verdict.
@@ -181,7 +181,7 @@ pub fn other_winner(alloc: Global, names: &[Name], winner: Candidate) -> Result<
     difference(alloc, text.as_str())
 }
 
-/// The answer if the budget of nodes is spent at this candidate.
+/// The answer if the budget of nodes runs out at this candidate.
 pub fn spent_answer(alloc: Global, file: &AssertionFile, last: Candidate) -> Result<Answer, Refusal>
     requires { last < length (file.now).candidates }
     ensures { IsOneOrMemory (λ verdict.
@@ -190,7 +190,7 @@ pub fn spent_answer(alloc: Global, file: &AssertionFile, last: Candidate) -> Res
     candidate_spent(alloc, file.candidates(), last)
 }
 
-/// The same, of candidates with these names.
+/// The same, by these names of the candidates.
 pub fn candidate_spent(alloc: Global, names: &[Name], last: Candidate) -> Result<Answer, Refusal>
     requires { last < length names.now }
     ensures { IsOneOrMemory (λ verdict.
@@ -203,7 +203,7 @@ pub fn candidate_spent(alloc: Global, names: &[Name], last: Candidate) -> Result
     })
 }
 
-/// The answer if a budget of this many sets is spent.
+/// The answer if a budget of this many sets runs out.
 pub fn spent_sets_answer(alloc: Global, sets: u32) -> Result<Answer, Refusal>
     ensures { IsOneOrMemory (λ verdict. verdict ≡ Answered Spent (spent_sets sets)) (due result) }
 {

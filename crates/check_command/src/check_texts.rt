@@ -12,7 +12,7 @@ use irv_base::{Memory, Name, Order};
 use report::{assertion_text, order_text};
 use std::alloc::{AllocError, Global};
 
-/// The lines of a file that holds: how many assertions it has, its margin, and that this isn't said to be the best, if it has no order.
+/// The lines for a file that holds: its number of assertions and its margin, and that this isn't said to be the best if it has no order.
 pub(crate) fn yes(alloc: Global, file: &AssertionFile) -> Result<String, AllocError>
     ensures { IfOk result (λ text. string_bytes text ≡ yes_text file.now) }
 {
@@ -107,7 +107,7 @@ fn needs_full_count(alloc: Global, index: u64) -> Result<String, AllocError>
     format!(in alloc; "assertion {index} needs a full count")
 }
 
-/// What an assertion takes: its draws, or a full count.
+/// What an assertion needs: its draws, or a full count.
 pub(crate) fn needs(alloc: Global, index: u64, draws: Option<u32>) -> Result<String, AllocError>
     ensures { IfOk result (λ text. string_bytes text ≡ needs index draws) }
 {

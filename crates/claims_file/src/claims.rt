@@ -5,7 +5,7 @@ use std::marker::Model;
 
 /// What a claims file says of a contest: who won it, and by which assertions. None of the assertions is known to be true.
 ///
-/// To a contract it is the record of these values, with a list for the list.
+/// In a contract, it is the record of these values, with a list for the list.
 #[derive(Drop)]
 pub struct Claims {
     /// The winner of the contest.

@@ -1,4 +1,4 @@
--- The files that a call begins, one after the other.
+-- The files that a call begins, in order.
 use Rattle.std.proofs.Common.{◌≡◌, ◌⊎◌, inl, inr, ℕ, zero, suc, List, Option, Some, Err, refl, ap, ◌∙◌, arith}
 use Rattle.desk.specs.Count.{one_more}
 use Rattle.desk.specs.Desk.{File}
@@ -16,7 +16,7 @@ begun_more : (files : ℕ) (x y z : Served) → y.begins ≡ one_more x.begins �
 begun_more zero x y z one none = none ∙ one
 begun_more (suc files) x y z one more = omega (arith, one, more)
 
--- ---- what a script comes to by other readings
+-- ---- how a script ends with other readings
 
 pub may_wider : (readings others : Readings) → ((name : List ℕ) (reading : Reading) → readings name reading → others name reading) → (script : Script)
     (files : ℕ) (due : Outcome) → MayAfter readings script files due → MayAfter others script files due
@@ -32,7 +32,7 @@ reaches_wider readings others wider (Read first next) n name (inl is) = inl is
 reaches_wider readings others wider (Read first next) n name (inr (more, is, bytes, there, rest)) =
     inr (more, is, bytes, wider first (Bytes bytes) there, reaches_wider readings others wider (next bytes) more name rest)
 
--- the files before one that is read are told
+-- the files before one that is read are reported
 pub told_reaches_as : (held : Option (List File)) (failed : Type 0) (script : Script) (n : ℕ) (name : List ℕ) → ReachesAs (ByDesk held failed) script n name →
     ReachesAs (AsTold held) script n name
 told_reaches_as held failed (Ends verdicts) n name reaches = reaches
@@ -40,7 +40,7 @@ told_reaches_as held failed (Read first next) n name (inl is) = inl is
 told_reaches_as held failed (Read first next) n name (inr (more, is, bytes, there, rest)) =
     inr (more, is, bytes, no_fault held failed first bytes there, told_reaches_as held failed (next bytes) more name rest)
 
--- ---- what it comes to, whatever the number of files
+-- ---- how it ends, whatever the number of files
 
 may_come : (readings : Readings) (script : Script) (files : ℕ) (due : Outcome) → MayAfter readings script files due → May readings script due
 may_come readings (Ends verdicts) files due (none, may) = may
@@ -96,7 +96,7 @@ memory_here readings served asked due memory = record { files = 0; begun = refl;
 
 -- ---- a script that reads nothing more
 
--- it ends with one of its verdicts, or for want of memory
+-- it ends with one of its verdicts, or because memory ran out
 abbrev pub EndsNow : Script → Outcome → Type 0
 EndsNow (Ends verdicts) due = IsOneOrMemory verdicts due
 EndsNow (Read name next) due = due ≡ out_of_memory

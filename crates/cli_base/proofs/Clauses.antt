@@ -1,4 +1,4 @@
--- What follows from how a call went: what was due, and what the sinks took of it.
+-- What follows from how a call went: which outcome was due, and what the sinks took of it.
 use Rattle.std.proofs.Common.{◌≡◌, ◌⊎◌, inl, inr, ⊎_elim, ℕ, List, Option, [], length, None, Some, IfSome, nat_le, if◌then◌else◌, refl, sym, ◌∙◌, ap, subst, arith, append-nil, Bool, true, false}
 use Rattle.std.specs.Io.KnownBytes.{Appends, Keeps}
 use Rattle.desk.specs.Desk.{File, held_bytes}
@@ -17,7 +17,7 @@ use Rattle.cli_base.proofs.Statuses.{status_in, differ, free, unbudgeted, of_no_
 
 -- ---- how it came
 
--- the words were no line, a command read all its files, or a file stopped it
+-- the words weren't a line, a command read all its files, or a file stopped the command
 data Came (readings : Readings) (asked : Asked) (due : Outcome) : Type 0 where
   no_line : IsNothing asked → due.status ≡ 1 → due.out ≡ [] → Came readings asked due
   concluded : (v : Verdict) → ComesTo readings asked v → due ≡ outcome v → Came readings asked due
@@ -30,7 +30,7 @@ came readings (Runs script) due may = elim (ended readings script due may) [
   | inr (name, reading, reaches, there, stops) ↦ stopped name reading reaches there (stop name reading due stops)
 ]
 
--- the same, once so many files were begun
+-- the same, once this many files were begun
 data CameAfter (readings : Readings) (asked : Asked) (files : ℕ) (due : Outcome) : Type 0 where
   no_line_after : IsNothing asked → due.status ≡ 1 → due.out ≡ [] → CameAfter readings asked files due
   concluded_after : (v : Verdict) → ComesTo readings asked v → due ≡ outcome v → CameAfter readings asked files due
@@ -146,7 +146,7 @@ keeps None after took = tt
 keeps (Some xs) None took = absurd took
 keeps (Some xs) (Some ys) took = took ∙ append-nil xs
 
--- ---- the statuses that there are
+-- ---- the possible statuses
 
 stop_known : (status : ℕ) → (status ≡ 7) ⊎ (status ≡ 11) ⊎ (status ≡ 12) → IsStatus status
 stop_known status (inl seven) = inl (inr (inr (inl seven)))
@@ -209,7 +209,7 @@ if_some (Some x) P Q f p = f x p
 -- ---- each from the story of a call
 
 module _ (asked : Asked) (failed : Type 0) (status : ℕ) (out err : Writing) where
-  -- undone, or what the files make it, those that are told or some that the desk may have given
+  -- undone, or what the files make it, which are the reported files or some that the desk may have given
   told : (held : Option (List File)) (due : Outcome) → IsDue (ByDesk held failed) asked due → IsWritten due status out err
       → IsUndone status ⊎ (MayCome (AsTold held) asked due × IsWhole due status out err)
   told held due is_due (inr cut) = inl (inr (inl cut.ends))
@@ -227,14 +227,14 @@ module _ (asked : Asked) (failed : Type 0) (status : ℕ) (out err : Writing) wh
   ]
 
   module _ (files : List File) (due : Outcome) (is_due : IsDue (ByDesk (Some files) failed) asked due) (written : IsWritten due status out err) where
-    -- a status that comes only where something is so
+    -- a status that occurs only if something is so
     only : (n : ℕ) (cause : Type 0) → (IsUndone n → ⊥) → ((d : Outcome) → MayCome (AsHeld files) asked d → d.status ≡ n → cause) → status ≡ n → cause
     only n cause free from e = elim (told (Some files) due is_due written) [
       | inl undone ↦ absurd (free (subst IsUndone e undone))
       | inr (may, whole) ↦ from due may (sym whole.ends ∙ e)
     ]
 
-    -- and where it is so, what else may come, as far as ends of the command agree
+    -- and if it is so, what else may occur, as far as the ends of the command agree
     wherever : (R : Outcome → Outcome → Type 0) → ((d : Outcome) → R d d) → AgreeOn R asked → (n : ℕ) → (d : Outcome) → MayCome (AsHeld files) asked d →
         d.status ≡ n
         → IsUndone status ⊎ (R due d × (status ≡ due.status))
@@ -312,7 +312,7 @@ module _ {asked : Asked} {held : Option (List File)} {failed : Type 0} {before a
     | inr cut ↦ inr (inl cut.ends)
   ]
 
-  -- the statuses for `err` leave `out` as it was
+  -- the statuses for `err` leave `out` unchanged
   pub kept_clause : IsForErr status → Keeps out.before out.after
   kept_clause for_err = elim story.written [
     | inl whole ↦
@@ -321,7 +321,7 @@ module _ {asked : Asked} {held : Option (List File)} {failed : Type 0} {before a
     | inr cut ↦ absurd (omega (arith, for_err, cut.ends))
   ]
 
-  -- ---- nothing else is left where no count rose
+  -- ---- nothing else is left if no count rose
 
   not_seven : IsQuiet failed out err → status ≡ 7 → ⊥
   not_seven quiet seven = quiet.desk (read_fault_clause seven).cause
@@ -340,9 +340,9 @@ module _ {asked : Asked} {held : Option (List File)} {failed : Type 0} {before a
     otherwise = answer;
   }
 
-  -- ---- where the desk tells its files
+  -- ---- if the desk reports its files
 
-  -- what holds of the files holds where they are told
+  -- what holds for the files holds if they are reported
   where_told : (P : List File → Type 0) → ((files : List File) → IsDue (ByDesk (Some files) failed) asked story.due → P files) → IfSome held P
   where_told P each = by held (due_of story.come) where
     by : (h : Option (List File)) → IsDue (ByDesk h failed) asked story.due → IfSome h P

@@ -1,4 +1,4 @@
--- An answer that tells whether all is confirmed is done where it is, and else unconfirmed.
+-- An answer that says whether everything is confirmed is done if it is, and otherwise unconfirmed.
 use Rattle.std.proofs.Common.{◌≡◌, Bool, true, false, IsTrue, refl}
 use Rattle.std.proofs.lemmas.Bool.{false≢true}
 use Rattle.cli_base.specs.Confirmed.{confirmed_kind}

@@ -16,14 +16,14 @@ use Rattle.cli_base.proofs.AmongKinds.{among, is_among}
 pub bytes_of : (bytes : Vec ℕ Global) (text : String Global) → bytes ≡ string_vec text → bytes.items ≡ string_bytes text
 bytes_of bytes text is = ap (λ (v : Vec ℕ Global). v.items) is
 
--- ---- one verdict alone
+-- ---- a single verdict
 
 pub told_as : (verdicts : Verdict → Type 0) (verdict : Verdict) (due : Outcome) → verdicts verdict → IsOneOrMemory (λ v. v ≡ verdict) due →
     IsOneOrMemory verdicts due
 told_as verdicts verdict due holds (inl (v, is, ends)) = inl (verdict, holds, ends ∙ ap outcome is)
 told_as verdicts verdict due holds (inr memory) = inr memory
 
--- ---- one of more verdicts
+-- ---- one of several verdicts
 
 pub told_among : (some more : Verdict → Type 0) (due : Outcome) → ((verdict : Verdict) → some verdict → more verdict) → IsOneOrMemory some due →
     IsOneOrMemory more due

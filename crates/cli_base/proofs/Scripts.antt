@@ -1,4 +1,4 @@
--- What a script may come to.
+-- How a script may end.
 use Rattle.std.proofs.Common.{◌≡◌, ◌⊎◌, inl, inr, ⊎_elim, ℕ, List, Option, None, Some, refl, sym, ◌∙◌, ap, subst}
 use Rattle.desk.specs.Desk.{File}
 use Rattle.cli_base.specs.Outcome.{Outcome, Verdict, outcome, read_fault}

@@ -10,7 +10,7 @@ use Rattle.cli_base.proofs.Scripts.{some_is}
 abbrev pub status_in : Outcome → ℕ
 status_in due = due.status
 
--- two numbers that a test tells apart
+-- two numbers that a test distinguishes
 pub differ : (m n : ℕ) → m ≡ n → nat_eq m n ≡ false → ⊥
 differ m n e test = let yes : nat_eq m n ≡ true = eq-eqb m n e in cc (yes, test)
 
@@ -69,7 +69,7 @@ pub answer_verdict : (kind : AnswerKind) (v : Verdict) (due : Outcome) → due �
 answer_verdict kind (Answered other text) due is n = (text, ap (λ k. Answered k text) (same_kind other kind (sym (ap status_in is) ∙ n)))
 answer_verdict kind (Refused name text) due is n = absurd (of_no_kind 2 refl kind (sym n ∙ ap status_in is))
 
--- it has no status that is of no kind, but for 2
+-- it has no status that doesn't belong to a kind, except 2
 pub verdict_free : (n : ℕ) → kind_at n ≡ None → nat_eq 2 n ≡ false → (v : Verdict) (due : Outcome) → due ≡ outcome v → due.status ≡ n → ⊥
 verdict_free n none other (Answered kind text) due is e = of_no_kind n none kind (sym (ap status_in is) ∙ e)
 verdict_free n none other (Refused name text) due is e = differ 2 n (sym (ap status_in is) ∙ e) other

@@ -1,4 +1,4 @@
--- A command goes on from one file to the next, and ends after the last one.
+-- A command continues from one file to the next, and ends after the last one.
 use Rattle.std.proofs.Common.{◌≡◌, ◌∙◌, inl, inr, ℕ, ◌+◌, ◌≤◌, max, List, Option, refl, sym, ap, subst, arith}
 use Rattle.desk.specs.Count.{Rose, one_more}
 use Rattle.desk.specs.declared.served.Served.{Served}
@@ -52,7 +52,7 @@ accounted_on {m} {n} a b c status first rest = record {
 
 -- ---- the last file
 
--- what the desk served, where the status tells of no file
+-- what the desk served, if the status says nothing about a file
 pub accounted_as : {n : ℕ} (a b : Served) (status : ℕ) → (status ≡ 12 → ⊥) → (status ≡ 11 → ⊥) → IsAccountedFor n a b 0 → IsAccountedFor n a b status
 accounted_as a b status no_miss no_length first = record {
   begins = first.begins;

@@ -4,12 +4,12 @@ use Rattle.desk.specs.Count.{grown, one_more}
 use Rattle.desk.specs.declared.served.Served.{Served}
 use Rattle.cli_base.specs.Script.{limit}
 
--- 8 and 9: a write failed, memory was wanting
+-- 8 and 9: a write failed, or memory ran out
 abbrev pub IsBroken : ℕ → Type 0
 IsBroken status = (status ≡ 8) ⊎ (status ≡ 9)
 
--- At most this many files are begun, and with status 0 exactly this many. A file is missing exactly if `begin` answered that there is
--- none, and too long exactly if more bytes came than the limit.
+-- At most this many files are begun, and exactly this many if the status is 0. A file is missing exactly if `begin` answered that there is
+-- none, and too long exactly if more bytes came than the limit allows.
 pub record IsAccountedFor (files : ℕ) (before after : Served) (status : ℕ) : Type 0 where
   pub begins : after.begins ≤ before.begins + files
   pub all_begun : status ≡ 0 → grown before.begins files ≤ after.begins

@@ -1,4 +1,4 @@
--- The kind of an answer that says whether all is confirmed.
+-- The kind of an answer that says whether everything is confirmed.
 use Rattle.std.specs.Prelude.{Bool, true, false}
 use Rattle.cli_base.specs.declared.outcome.AnswerKind.{AnswerKind}
 use Rattle.cli_base.specs.declared.outcome.AnswerKind.TheVariants.{Done, Unconfirmed}

@@ -5,7 +5,7 @@ use Rattle.desk.specs.Count.{Rose}
 use Rattle.desk.specs.declared.sink.Sink.{Ghosts}
 use Rattle.cli_base.specs.Outcome.{Outcome}
 
--- what is seen of a sink over a call: what it took before and after, and its count of faults
+-- what can be seen of a sink over a call: what it had taken before and after, and its count of faults
 pub record Writing : Type 0 where
   pub before : Option (List ℕ)
   pub after : Option (List ℕ)
@@ -32,7 +32,7 @@ TookPrefix sink text = (n : ℕ) × (n ≤ length text) × Took sink (take n tex
 abbrev pub Failed : Writing → Type 0
 Failed sink = Rose sink.faults_before sink.faults_after
 
--- its count of faults is as it was
+-- its count of faults is unchanged
 abbrev pub IsUnfailed : Writing → Type 0
 IsUnfailed sink = sink.faults_after ≡ sink.faults_before
 

@@ -1,4 +1,4 @@
--- What a call comes to: the status that the program ends with, and the texts that it writes.
+-- The outcome of a call: the status that the program ends with, and the texts that it writes.
 use Rattle.std.specs.Prelude.{◌≡◌, ℕ, List, [], ◌∷◌, ◌++◌, codes}
 use Rattle.std.specs.Fmt.{decimal}
 use Rattle.cli_base.specs.declared.outcome.AnswerKind.{AnswerKind}
@@ -27,9 +27,9 @@ refusal_status ReadFault = 7
 refusal_status TooLong = 11
 refusal_status Missing = 12
 
--- ---- what a command comes to once it has read its files
+-- ---- what a command ends with once it has read its files
 
--- an answer of a kind, or what is wrong with a file
+-- an answer of some kind, or what is wrong with a file
 pub data Verdict : Type 0 where
   Answered : AnswerKind → List ℕ → Verdict
   Refused : List ℕ → List ℕ → Verdict
@@ -47,7 +47,7 @@ broken_at rule at = rule ++ codes " at " ++ decimal at
 abbrev pub line : List ℕ → List ℕ
 line text = text ++ 0x0A ∷ []
 
--- what a refusal says: a line for `err`
+-- what a refusal says, as a line for `err`
 abbrev pub refusal : ℕ → List ℕ → Outcome
 refusal status text = record { status = status; out = []; err = line (codes "raire: " ++ text) }
 

@@ -7,7 +7,7 @@ use Rattle.cli_base.specs.Outcome.{Outcome}
 use Rattle.cli_base.specs.Script.{Asked, ByDesk}
 use Rattle.cli_base.specs.Ends.{Writing, IsWritten}
 
--- The desk has begun the first files of what is asked for, an outcome was due by them, and the sinks took it, or a part of it.
+-- The desk has begun the first files of what is asked for, an outcome followed from them, and the sinks took it or part of it.
 pub record Story (asked : Asked) (held : Option (List File)) (failed : Type 0)
     (before after : Served) (status : ℕ) (out err : Writing) : Type 0 where
   pub due : Outcome

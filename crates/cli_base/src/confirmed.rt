@@ -1,10 +1,10 @@
-// The kind of an answer that says whether all is confirmed.
+// The kind of an answer that says whether everything is confirmed.
 ghost use Rattle.std.specs.Prelude.{◌≡◌};
 ghost use Rattle.cli_base.specs.Confirmed.{confirmed_kind};
 
 use crate::outcome::AnswerKind;
 
-/// Done if all is confirmed, and unconfirmed otherwise.
+/// Returns done if everything is confirmed, and unconfirmed otherwise.
 pub fn confirmed_kind(all: bool) -> AnswerKind
     ensures { result ≡ confirmed_kind all }
 {

@@ -1,4 +1,4 @@
-// The last step of a call: what it comes to is written.
+// The last step of a call, which writes its outcome.
 ghost use Rattle.std.specs.Prelude.{◌≡◌};
 ghost use Rattle.cli_base.specs.Ends.{writing, IsSaid, IsWritten};
 ghost use Rattle.cli_base.specs.Due.{due, due_refusal};
@@ -10,7 +10,7 @@ const BAD_WORDS: &[u8] = b"raire: bad words\n";
 
 const OUT_OF_MEMORY: &[u8] = b"raire: out of memory\n";
 
-/// Writes an answer to `out`, or a refusal to `err`, and gives the status that the call ends with.
+/// Writes an answer to `out`, or a refusal to `err`, and returns the status that the call ends with.
 pub fn deliver<O: Sink, E: Sink>(outcome: &Result<Answer, Refusal>, out: &mut O, err: &mut E) -> u8
     ensures { IsWritten (due outcome.now) result
         (writing O.Sink out.old out.new) (writing E.Sink err.old err.new) }
@@ -32,7 +32,7 @@ fn say_refusal<S: Sink>(err: &mut S, refusal: &Refusal) -> u8
     }
 }
 
-// Writes a text, and gives the status that goes with it, or 8 if a write fails.
+// Writes a text, and returns the status that goes with it, or 8 if a write fails.
 fn say<S: Sink>(sink: &mut S, text: &[u8], status: u8) -> u8
     ensures { IsSaid text.now status result (writing S.Sink sink.old sink.new) }
 {

@@ -1,4 +1,4 @@
-// Files are read, whole or piece by piece, or refused.
+// Reads files, whole or piece by piece, or refuses them.
 ghost use Rattle.std.specs.Prelude.{◌≡◌, ◌≤◌, ◌++◌, OnOk, IfOk, IfErr, string_bytes, codes};
 ghost use Rattle.desk.specs.Count.{one_more, Rose};
 ghost use Rattle.cli_base.specs.Script.{ByDesk};
@@ -13,7 +13,7 @@ use desk::{Desk, DeskFault, Taker, read_into};
 use irv_base::MOST_FILE_BYTES;
 use std::alloc::{AllocError, Global};
 
-/// All bytes of a file, or why the call stops there.
+/// Returns all bytes of a file, or why the call stops there.
 pub fn read_file<D: Desk>(alloc: Global, desk: &mut D, file: &str) -> Result<Vec<u8>, Refusal>
     ensures held { D.held desk.new ≡ D.held desk.old }
     ensures faults { IsFaultTold (D.faults desk.old) (D.faults desk.new) (status_so_far result) }
@@ -28,7 +28,8 @@ pub fn read_file<D: Desk>(alloc: Global, desk: &mut D, file: &str) -> Result<Vec
     Ok(bytes)
 }
 
-/// Reads a file into what takes its bytes, piece by piece, or says why the call stops there. Then some pieces may have been taken.
+/// Reads a file piece by piece into a taker of its bytes, or says why the call stops there. In that case some pieces may already have been
+/// taken.
 pub fn read_file_into<D: Desk, T: Taker>(
     alloc: Global,
     desk: &mut D,
@@ -55,7 +56,7 @@ pub fn read_file_into<D: Desk, T: Taker>(
     }
 }
 
-/// A refusal that names a file.
+/// Returns a refusal that names a file.
 pub fn refuse(alloc: Global, kind: RefusalKind, file: &str, text: &str) -> Refusal
     ensures { IsOrMemory (file_refusal kind file.now text.now) (due_refusal result) }
 {
@@ -65,7 +66,7 @@ pub fn refuse(alloc: Global, kind: RefusalKind, file: &str, text: &str) -> Refus
     }
 }
 
-/// A refusal by a rule, at the place of a file that breaks it.
+/// Returns a refusal by a rule, at the place in a file that breaks the rule.
 pub fn refuse_at(alloc: Global, file: &str, rule: &str, at: u64) -> Refusal
     ensures { IsOrMemory (file_refusal Input file.now (broken_at rule.now at))
         (due_refusal result) }

@@ -1,4 +1,4 @@
-//! What the commands of the suite share: files that are read, whole or piece by piece, what a command may come to, and how that is written.
+//! What the commands of the suite share: reading files, whole or piece by piece, the possible outcomes of a command, and writing them.
 #![tactic(auto)]
 
 mod confirmed;

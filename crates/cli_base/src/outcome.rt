@@ -1,4 +1,4 @@
-// What a call comes to, before anything is written.
+// The outcome of a call, before anything is written.
 ghost use Rattle.std.specs.Prelude.{◌≡◌};
 ghost use Rattle.cli_base.specs.Outcome.{status_of, refusal_status};
 ghost use Rattle.cli_base.specs.declared.outcome.Refusal.TheVariants.{Memory as OutOfMemory};
@@ -6,16 +6,16 @@ ghost use Rattle.cli_base.specs.declared.outcome.Refusal.TheVariants.{Memory as 
 use irv_base::Memory;
 use std::alloc::{AllocError, AllocFailed};
 
-/// The kinds of answer, which goes to `out`.
+/// The kinds of answer. An answer goes to `out`.
 #[derive(Clone, Copy, Debug, PartialEq, Eq)]
 pub enum AnswerKind {
     /// What was asked for.
     Done,
     /// Ways of breaking the ties of the contest elect different candidates.
     Tie,
-    /// The budget of nodes is spent.
+    /// The budget of nodes has run out.
     Spent,
-    /// A full count is called for.
+    /// A full count is needed.
     FullCount,
     /// A file doesn't hold.
     Differs,
@@ -24,7 +24,7 @@ pub enum AnswerKind {
 }
 
 impl AnswerKind {
-    /// The status that the program ends with, if the answer is written whole.
+    /// The status that the program ends with if the whole answer is written.
     pub fn status(self) -> u8
         ensures { result ≡ status_of self }
     {
@@ -42,18 +42,18 @@ impl AnswerKind {
 /// The kinds of refusal that name a file.
 #[derive(Clone, Copy, Debug, PartialEq, Eq)]
 pub enum RefusalKind {
-    /// A rule refuses it.
+    /// A rule refuses the file.
     Input,
-    /// It could not be read.
+    /// The file could not be read.
     ReadFault,
-    /// It is longer than a file may be.
+    /// The file is longer than a file may be.
     TooLong,
-    /// There is none.
+    /// There is no such file.
     Missing,
 }
 
 impl RefusalKind {
-    /// The status that the program ends with, if the line of the refusal is written whole.
+    /// The status that the program ends with if the whole line of the refusal is written.
     pub fn status(self) -> u8
         ensures { result ≡ refusal_status self }
     {
@@ -69,7 +69,7 @@ impl RefusalKind {
 /// What a command answers, for `out`.
 #[derive(Drop)]
 pub struct Answer {
-    /// Which kind of answer it is.
+    /// The kind of the answer.
     pub kind: AnswerKind,
     /// The bytes that `out` gets.
     pub text: Vec<u8>,
@@ -78,11 +78,11 @@ pub struct Answer {
 /// Why a command has no answer, for `err`.
 #[derive(Drop)]
 pub enum Refusal {
-    /// The words are no line.
+    /// The words aren't a line.
     Words,
     /// A line that names a file.
     Line(RefusalKind, String),
-    /// Memory is wanting.
+    /// Memory could not be allocated.
     Memory,
 }
 

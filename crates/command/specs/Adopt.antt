@@ -1,4 +1,4 @@
--- The limits of what an adoption is asked for.
+-- The limits of the task of an adoption.
 use Rattle.budget.specs.Budgets.{IsWithin}
 use Rattle.command.specs.Limits.{IsNamed}
 use Rattle.command.specs.declared.adopt.AdoptTask.{AdoptTask}

@@ -1,4 +1,4 @@
--- The limits of what a round of an audit is asked for.
+-- The limits of the task of a round of an audit.
 use Rattle.irv_base.specs.declared.limits.TheConstants.{MOST_DRAWS}
 use Rattle.budget.specs.Budgets.{IsWithin}
 use Rattle.command.specs.Limits.{IsNamed, IsUpTo}

@@ -1,4 +1,4 @@
--- The limits of what a round of an audit of a plurality contest is asked for.
+-- The limits of the task of a round of an audit of a plurality contest.
 use Rattle.irv_base.specs.declared.limits.TheConstants.{MOST_DRAWS}
 use Rattle.command.specs.Limits.{IsNamed, IsUpTo}
 use Rattle.command.specs.declared.audit_plurality.AuditPluralityTask.{AuditPluralityTask}

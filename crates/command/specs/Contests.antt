@@ -1,4 +1,4 @@
--- The limits of what an audit of all contests of a file is asked for.
+-- The limits of the task of an audit of all contests of a file.
 use Rattle.std.specs.Prelude.{◌≡◌, true}
 use Rattle.irv_base.specs.declared.limits.TheConstants.{GREATEST_GAMMA, GREATEST_LIMIT, MOST_DRAWS, MOST_WORKERS}
 use Rattle.sampler.specs.Seeds.{is_seed}

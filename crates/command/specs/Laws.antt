@@ -2,7 +2,7 @@
 use Rattle.std.specs.Prelude.{◌≡◌}
 use Rattle.command.specs.declared.limits.TheConstants.{MOST_FLOOR, MOST_GAP, MOST_TRIAL_NUMBER, DEFAULT_WORKERS, DEFAULT_FLOOR, DEFAULT_GAP, DEFAULT_LIMIT, DEFAULT_GAMMA, DEFAULT_CANDIDATES, DEFAULT_BALLOTS}
 
--- the limits and the defaults
+-- the limits and defaults
 pub record Limits : Type 0 where
   pub default_workers : DEFAULT_WORKERS ≡ 4
   pub floor : MOST_FLOOR ≡ 1000000

@@ -1,4 +1,4 @@
--- The limits of what a session of a plurality contest is opened with.
+-- The limits of the task that opens a session of a plurality contest.
 use Rattle.std.specs.Prelude.{◌≡◌, true}
 use Rattle.irv_base.specs.declared.limits.TheConstants.{GREATEST_GAMMA, GREATEST_LIMIT}
 use Rattle.sampler.specs.Seeds.{is_seed}

@@ -1,4 +1,4 @@
--- The limits of what a plan is asked for.
+-- The limits of the task of a plan.
 use Rattle.irv_base.specs.declared.limits.TheConstants.{GREATEST_GAMMA, GREATEST_LIMIT}
 use Rattle.command.specs.Limits.{IsNamed, IsUpTo}
 use Rattle.command.specs.declared.plan.PlanTask.{PlanTask}

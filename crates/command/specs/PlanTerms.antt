@@ -1,4 +1,4 @@
--- The limits of what clean draws are planned for.
+-- The limits of the terms for which clean draws are planned.
 use Rattle.irv_base.specs.declared.limits.TheConstants.{GREATEST_GAMMA, GREATEST_LIMIT, MOST_CARDS}
 use Rattle.command.specs.Limits.{IsUpTo}
 use Rattle.command.specs.declared.plan_terms.PlanTerms.{PlanTerms}

@@ -1,4 +1,4 @@
--- The limits of what a ballot poll is asked for.
+-- The limits of the task of a ballot poll.
 use Rattle.std.specs.Prelude.{◌≡◌, true}
 use Rattle.irv_base.specs.declared.limits.TheConstants.{GREATEST_GAMMA, GREATEST_LIMIT, MOST_DRAWS}
 use Rattle.sampler.specs.Seeds.{is_seed}

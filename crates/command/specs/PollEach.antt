@@ -1,4 +1,4 @@
--- The limits of what a ballot poll is asked for that looks at each draw.
+-- The limits of the task of a ballot poll that looks after each draw.
 use Rattle.std.specs.Prelude.{◌≡◌, true, IfSome}
 use Rattle.irv_base.specs.declared.limits.TheConstants.{GREATEST_LIMIT, MOST_DRAWS}
 use Rattle.km_risk.specs.declared.limits.TheConstants.{GREATEST_EACH_GAMMA}

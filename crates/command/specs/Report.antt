@@ -1,4 +1,4 @@
--- The limits of what a report is asked for.
+-- The limits of the task of a report.
 use Rattle.command.specs.Limits.{IsNamed}
 use Rattle.command.specs.declared.report.ReportTask.{ReportTask}
 

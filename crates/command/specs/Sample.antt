@@ -1,4 +1,4 @@
--- The limits of what a sample is asked for.
+-- The limits of the task of a sample.
 use Rattle.std.specs.Prelude.{◌≡◌, true}
 use Rattle.irv_base.specs.declared.limits.TheConstants.{MOST_DRAWS}
 use Rattle.sampler.specs.Seeds.{is_seed}

@@ -1,4 +1,4 @@
--- The limits of what a search is asked for.
+-- The limits of the task of a search.
 use Rattle.std.specs.Prelude.{IfSome}
 use Rattle.irv_base.specs.declared.limits.TheConstants.{MOST_WORKERS}
 use Rattle.budget.specs.Budgets.{IsWithin}

@@ -1,4 +1,4 @@
--- The limits of what a search for the fewest NENs is asked for.
+-- The limits of the task of a search for the fewest NENs.
 use Rattle.std.specs.Prelude.{◌≤◌, IfSome}
 use Rattle.irv_base.specs.declared.limits.TheConstants.{MOST_WORKERS}
 use Rattle.budget.specs.declared.limits.TheConstants.{MOST_SETS}

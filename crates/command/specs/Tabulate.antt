@@ -1,4 +1,4 @@
--- The limits of what a tabulation is asked for.
+-- The limits of the task of a tabulation.
 use Rattle.budget.specs.declared.limits.TheConstants.{MOST_NODES}
 use Rattle.command.specs.Limits.{IsNamed, IsUpTo}
 use Rattle.command.specs.declared.tabulate.TabulateTask.{TabulateTask}

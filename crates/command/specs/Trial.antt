@@ -1,4 +1,4 @@
--- The limits of what a trial is asked for.
+-- The limits of the task of a trial.
 use Rattle.std.specs.Prelude.{◌≤◌}
 use Rattle.irv_base.specs.declared.limits.TheConstants.{FEWEST_CANDIDATES, MOST_CANDIDATES, MOST_RECORDS, MOST_WORKERS}
 use Rattle.budget.specs.Budgets.{IsWithin}

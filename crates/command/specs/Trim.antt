@@ -1,4 +1,4 @@
--- The limits of what a trim is asked for.
+-- The limits of the task of a trim.
 use Rattle.budget.specs.Budgets.{IsWithin}
 use Rattle.command.specs.Limits.{IsNamed}
 use Rattle.command.specs.declared.trim.TrimTask.{TrimTask}

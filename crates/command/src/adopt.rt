@@ -1,10 +1,10 @@
-// What an adoption is asked for.
+// The task of an adoption.
 
 use crate::file_name::FileName;
 use budget::Budget;
 use irv_base::Name;
 
-/// An assertion file with the assertions of a claims file and their margins over the ballots of a contest.
+/// The task to make an assertion file from the assertions of a claims file and their margins over the ballots of a contest.
 #[derive(Drop)]
 pub struct AdoptTask {
     /// The ballot file.
@@ -13,6 +13,6 @@ pub struct AdoptTask {
     pub claims: FileName,
     /// The contest, which may be omitted if the file has only one.
     pub contest: Option<Name>,
-    /// How far the check may go whether the claims refute each order that elects another candidate.
+    /// How far the check may go to find whether the claims refute each order that elects another candidate.
     pub budget: Budget,
 }

@@ -1,9 +1,9 @@
-// What a round of an audit is asked for.
+// The task of a round of an audit.
 
 use crate::file_name::FileName;
 use budget::Budget;
 
-/// The session with a round more.
+/// The task to add a round to a session.
 #[derive(Drop)]
 pub struct AuditTask {
     /// The session file.
@@ -16,7 +16,7 @@ pub struct AuditTask {
     pub assertions: FileName,
     /// The file of seen cards.
     pub seen: FileName,
-    /// How many draws there are then, counted from the first of the audit.
+    /// The number of draws after the round, counted from the first draw of the audit.
     pub draws: u32,
     /// How far the check of the assertions may go.
     pub budget: Budget,

@@ -1,8 +1,8 @@
-// What a round of an audit of a plurality contest is asked for.
+// The task of a round of an audit of a plurality contest.
 
 use crate::file_name::FileName;
 
-/// The session of an audit of first preferences with a round more.
+/// The task to add a round to the session of an audit of first preferences.
 #[derive(Drop)]
 pub struct AuditPluralityTask {
     /// The session file.
@@ -13,6 +13,6 @@ pub struct AuditPluralityTask {
     pub manifest: FileName,
     /// The file of seen cards.
     pub seen: FileName,
-    /// How many draws there are then, counted from the first of the audit.
+    /// The number of draws after the round, counted from the first draw of the audit.
     pub draws: u32,
 }

@@ -1,10 +1,10 @@
-// What a check is asked for.
+// The task of a check.
 
 use crate::file_name::FileName;
 use budget::Budget;
 use irv_base::Name;
 
-/// Whether an assertion file holds of the ballots of a contest.
+/// The task to find whether an assertion file holds of the ballots of a contest.
 #[derive(Drop)]
 pub struct CheckTask {
     /// The ballot file.

@@ -1,9 +1,9 @@
-// What an audit of all contests of a file is asked for.
+// The task of an audit of all contests of a file.
 
 use crate::file_name::FileName;
 use sampler::Seed;
 
-/// One round of an audit of each contest of a ballot file, by the same draws for all.
+/// The task to do one round of an audit of each contest of a ballot file, with the same draws for all contests.
 #[derive(Drop)]
 pub struct ContestsTask {
     /// The ballot file.
@@ -14,14 +14,14 @@ pub struct ContestsTask {
     pub seen: FileName,
     /// The seed of the draws.
     pub seed: Seed,
-    /// How many draws.
+    /// The number of draws.
     pub draws: u32,
     /// The risk limit, in millionths.
     pub limit: u32,
     /// The gamma, in thousandths.
     pub gamma: u32,
-    /// How many contests are searched side by side.
+    /// The number of contests that are searched in parallel.
     pub workers: u32,
-    /// The most suffixes that a race may expand for one piece, or a certificate count for one candidate.
+    /// The maximum number of suffixes that a race may expand for one piece, or that a certificate may count for one candidate.
     pub nodes: u32,
 }

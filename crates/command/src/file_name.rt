@@ -3,7 +3,7 @@ ghost use Rattle.std.specs.Prelude.{◌≡◌, string_bytes};
 
 use std::marker::Model;
 
-/// The name of a file, as a word gives it. To a contract it is its bytes.
+/// The name of a file, as a word gives it. In a contract, it is its bytes.
 #[derive(Drop)]
 pub struct FileName {
     text: String,
@@ -18,14 +18,14 @@ impl Model for FileName {
 }
 
 impl FileName {
-    /// The file of this name.
+    /// Makes the file name with this text.
     pub fn of(text: String) -> FileName
         ensures { result ≡ string_bytes text }
     {
         FileName { text }
     }
 
-    /// Its text, as the word gave it.
+    /// Returns the text of the name, as the word gave it.
     pub fn as_str(&self) -> &str
         ensures { result.now ≡ self.now }
     {

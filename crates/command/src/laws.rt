@@ -1,7 +1,7 @@
 //! The laws of tasks.
 ghost use Rattle.command.specs.Laws.{Limits};
 
-/// The limits and the defaults of a task's numbers.
+/// The limits and defaults of a task's numbers.
 pub fn limits()
     ensures { Limits }
 {}

@@ -1,4 +1,4 @@
-//! What a command is asked to do: a task a command, with the names of its files and its numbers, and their limits.
+//! What a command is asked to do. Each command has a task, with the names of its files, its numbers, and their limits.
 #![tactic(auto)]
 
 mod adopt;

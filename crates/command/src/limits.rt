@@ -1,6 +1,6 @@
-// The limits and the defaults of options, each stated here once.
+// The limits and defaults of options. Each is stated only here.
 
-/// The greatest number that a trial is drawn from.
+/// The maximum number that a trial may be drawn from.
 pub const MOST_TRIAL_NUMBER: u32 = 4_294_967_295;
 
 /// The default number of candidates of a trial.
@@ -12,13 +12,13 @@ pub const DEFAULT_BALLOTS: u32 = 10_000;
 /// The default number of workers of a search, a trial or an audit of all contests.
 pub const DEFAULT_WORKERS: u32 = 4;
 
-/// The greatest floor of a search's margin, in votes.
+/// The maximum floor of a search's margin, in votes.
 pub const MOST_FLOOR: u32 = 1_000_000;
 
 /// The default floor.
 pub const DEFAULT_FLOOR: u32 = 1;
 
-/// The greatest gap below the best margin, in thousandths of it.
+/// The maximum gap below the best margin, in thousandths of it.
 pub const MOST_GAP: u32 = 500;
 
 /// The default gap.

@@ -1,11 +1,11 @@
-// What a session is opened with.
+// The task that opens a session.
 
 use crate::file_name::FileName;
 use budget::Budget;
 use irv_base::Name;
 use sampler::Seed;
 
-/// The session of an audit before its first round.
+/// The task to open the session of an audit, before its first round.
 #[derive(Drop)]
 pub struct OpenTask {
     /// The ballot file.

@@ -1,10 +1,10 @@
-// What a session of a plurality contest is opened with.
+// The task that opens a session of a plurality contest.
 
 use crate::file_name::FileName;
 use irv_base::Name;
 use sampler::Seed;
 
-/// The session of an audit of first preferences, before its first round.
+/// The task to open the session of an audit of first preferences, before its first round.
 #[derive(Drop)]
 pub struct OpenPluralityTask {
     /// The ballot file.

@@ -1,8 +1,8 @@
-// What a plan is asked for.
+// The task of a plan.
 
 use crate::file_name::FileName;
 
-/// How many draws a clean audit takes.
+/// The task to find the number of draws that a clean audit takes.
 #[derive(Drop)]
 pub struct PlanTask {
     /// The manifest.

@@ -1,9 +1,9 @@
-// What the clean draws of an assertion file are planned for.
+// The terms for which the clean draws of an assertion file are planned.
 
-/// How many cards an audit is to draw from, and what its risk is held to.
+/// The number of cards that an audit will draw from, its risk limit, and gamma.
 #[derive(Clone, Copy)]
 pub struct PlanTerms {
-    /// How many cards the manifest will have.
+    /// The number of cards that the manifest will have.
     pub cards: u32,
     /// The risk limit, in millionths.
     pub limit: u32,

@@ -1,9 +1,9 @@
-// What a ballot poll is asked for.
+// The task of a ballot poll.
 
 use crate::file_name::FileName;
 use sampler::Seed;
 
-/// Whether the seen values of the drawn cards confirm the assertions of a file, with no card matched to its record.
+/// The task to find whether the seen values of the drawn cards confirm the assertions of a file, without matching any card to its record.
 #[derive(Drop)]
 pub struct PollTask {
     /// The manifest.
@@ -14,12 +14,12 @@ pub struct PollTask {
     pub seen: FileName,
     /// The seed of the draws.
     pub seed: Seed,
-    /// How many draws.
+    /// The number of draws.
     pub draws: u32,
     /// The risk limit, in millionths.
     pub limit: u32,
     /// The gamma, in thousandths.
     pub gamma: u32,
-    /// The most suffixes that may count for one candidate in the check of the assertions.
+    /// The maximum number of suffixes that may count for one candidate in the check of the assertions.
     pub nodes: u32,
 }

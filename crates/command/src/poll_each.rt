@@ -1,10 +1,10 @@
-// What a ballot poll is asked for that looks at each draw.
+// The task of a ballot poll that looks after each draw.
 
 use crate::file_name::FileName;
 use sampler::Seed;
 
-/// Whether the seen values of the drawn cards confirm the assertions of a file, with no card matched to its record and a look after
-/// each draw.
+/// The task to find whether the seen values of the drawn cards confirm the assertions of a file, without matching any card to its record,
+/// and with a look after each draw.
 #[derive(Drop)]
 pub struct PollEachTask {
     /// The manifest.
@@ -15,12 +15,12 @@ pub struct PollEachTask {
     pub seen: FileName,
     /// The seed of the draws.
     pub seed: Seed,
-    /// How many draws there may be.
+    /// The maximum number of draws.
     pub draws: u32,
     /// The risk limit, in millionths.
     pub limit: u32,
-    /// The gamma of each assertion, in thousandths. Without it each has the one that fits its margin.
+    /// The gamma of each assertion, in thousandths. If it is omitted, each assertion has the gamma that fits its margin.
     pub gamma: Option<u32>,
-    /// The most suffixes that may count for one candidate in the check of the assertions.
+    /// The maximum number of suffixes that may count for one candidate in the check of the assertions.
     pub nodes: u32,
 }

@@ -1,8 +1,8 @@
-// What a report is asked for.
+// The task of a report.
 
 use crate::file_name::FileName;
 
-/// What a session says.
+/// The task to report what a session says.
 #[derive(Drop)]
 pub struct ReportTask {
     /// The session file.

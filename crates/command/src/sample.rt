@@ -1,15 +1,15 @@
-// What a sample is asked for.
+// The task of a sample.
 
 use crate::file_name::FileName;
 use sampler::Seed;
 
-/// The cards that a seed draws.
+/// The task to list the cards that a seed draws.
 #[derive(Drop)]
 pub struct SampleTask {
     /// The manifest.
     pub manifest: FileName,
     /// The seed of the draws.
     pub seed: Seed,
-    /// How many draws.
+    /// The number of draws.
     pub draws: u32,
 }

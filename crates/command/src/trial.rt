@@ -1,18 +1,18 @@
-// What a trial is asked for.
+// The task of a trial.
 
 use budget::Budget;
 
-/// What a search of a contest whose records are drawn from a number is asked to do.
+/// The task to search a contest whose records are drawn from a number.
 #[derive(Clone, Copy)]
 pub struct TrialTask {
-    /// The number that it is drawn from.
+    /// The number that the records are drawn from.
     pub number: u32,
-    /// How many candidates it has.
+    /// The number of candidates in the contest.
     pub candidates: u32,
-    /// How many ballots it has.
+    /// The number of ballots in the contest.
     pub ballots: u32,
-    /// How many threads search.
+    /// The number of threads that search.
     pub workers: u32,
-    /// How far its search may go.
+    /// How far the search may go.
     pub budget: Budget,
 }

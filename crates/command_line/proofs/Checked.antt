@@ -25,7 +25,7 @@ use Rattle.command_line.specs.declared.table.ValueKind.TheVariants.{Id, Seed, Nu
 use Rattle.command_line.proofs.Meanings.{same_option, value-fits}
 use Rattle.command_line.proofs.Needed.{IsRight, parts, needed_given, seed_given}
 
--- ---- words are a line exactly where they have a meaning
+-- ---- words are a line exactly if they have a meaning
 
 mapped : {X Y : Type 0} (f : X → Y) (o : Option X) → is_some o ≡ is_some (option_map f o)
 mapped f None = refl
@@ -88,7 +88,7 @@ best_from_to least most default name kind left_out pieces h =
       by None fit = left_out
       by (Some v) fit = or v (is_best v) (fit v refl)
 
--- what the value of an option is, where it is given right
+-- what the value of an option is, if it is given correctly
 abbrev IsGiven : ValueKind → OptionName → List Piece → Type 0
 IsGiven Id option pieces = Unit {0}
 IsGiven Seed option pieces = is_seed (seed pieces) ≡ true
@@ -111,7 +111,7 @@ defaults_fit : (option : OptionName) → is_default (kind_of option) ≡ true
 defaults_fit option.Contest = refl
 defaults_fit _ = refl
 
--- no other option than the seed is a seed
+-- only the seed option is a seed
 is_the_seed : (name : OptionName) → kind_of name ≡ Seed → name ≡ option.Seed
 is_the_seed option.Seed is = refl
 is_the_seed _ is = cc
@@ -152,7 +152,7 @@ right_among (other ∷ options) option pieces among all =
     by true same among first rest = subst (λ o. is_given_right o pieces ≡ true) (same_option other option same) first
     by false same among first rest = rest among
 
--- the files and the options of a line that is right
+-- the files and the options of a correct line
 module _ (name : CommandName) (pieces : List Piece) (line : IsRight name pieces) where
   named : (i : ℕ) → nat_lt i (length (form_of name).files) ≡ true → IsNamed (file i pieces)
   named i less = file_named i pieces line.fit (subst (λ n. i < n) (sym line.count) (ltb-true i (length (form_of name).files) less))
@@ -160,18 +160,18 @@ module _ (name : CommandName) (pieces : List Piece) (line : IsRight name pieces)
   value_of : (o : OptionName) → has o (form_of name).options ≡ true → IsGiven (kind_of o) o pieces
   value_of o among = given o pieces line.fit (right_among (form_of name).options o pieces among line.options)
 
--- the limit and the gamma are within their limits, and so are the cards where there are some
+-- the limit and the gamma are within their limits, and so is the number of cards if there is one
 terms_checked : (pieces : List Piece) (cards : Option ℕ) → IfSome cards (IsUpTo MOST_CARDS) → IsUpTo GREATEST_LIMIT (number_of option.Limit pieces) →
     IsUpTo GREATEST_GAMMA (number_of option.Gamma pieces) → IfSome (option_map (terms_with pieces) cards) AreWithinLimits
 terms_checked pieces None some limit gamma = tt
 terms_checked pieces (Some cards) some limit gamma = record { cards = some; limit = limit; gamma = gamma }
 
--- so many sets, or else so many nodes
+-- this many sets, or otherwise this many nodes
 budget_checked : (nodes : ℕ) (sets : Option ℕ) → IsUpTo MOST_NODES nodes → IfSome sets (IsUpTo MOST_SETS) → IsWithin (budget_with nodes sets)
 budget_checked nodes None most few = most
 budget_checked nodes (Some sets) most few = few
 
--- a row a command
+-- one row for each command
 meaning_checked : (name : CommandName) (pieces : List Piece) → IsRight name pieces → IsChecked (meaning name pieces)
 meaning_checked command.Search pieces line =
     let file = named command.Search pieces line in
@@ -321,7 +321,7 @@ meaning_checked command.Trial pieces line =
       budget = budget_checked (number_of option.Nodes pieces) (given_number option.Sets pieces) (value option.Nodes refl) (value option.Sets refl);
     }
 
--- the words of a line are right
+-- the words of a line are correct
 pub line_right : (word : List ℕ) (words : List (List ℕ)) (name : CommandName) → line_named word words ≡ Some name →
     are_right name (pieces_of name words) ≡ true
 line_right word words name is =

@@ -1,4 +1,4 @@
--- What the text of an option means, where all pieces are right.
+-- What the text of an option means, if all pieces are correct.
 use Rattle.std.proofs.Common.{◌≡◌, ◌≤◌, ◌<◌, ◌^◌, ◌&&◌, ◌||◌, ◌==◌, ℕ, List, [], ◌∷◌, Option, Some, None, Bool, true, false, length, nat_le, nat_lt, refl, subst, arith, leb-true}
 use Rattle.std.specs.Prelude.{slice_get, filter_map, unwrap_or, option_map, if◌then◌else◌}
 use Rattle.std.specs.List.{list_all, cons_option}
@@ -17,7 +17,7 @@ use Rattle.command_line.specs.declared.table.OptionName.TheVariants as option
 use Rattle.command_line.specs.declared.table.ValueKind.{ValueKind}
 use Rattle.command_line.specs.declared.table.ValueKind.TheVariants.{Id, Seed, Number, FreeNumber, NumberOrBest, Flag}
 
--- ---- a row an option
+-- ---- one row for each option
 
 pub same_option : (a b : OptionName) → is_same a b ≡ true → a ≡ b
 same_option Contest Contest h = refl
@@ -130,7 +130,7 @@ module _ (option : OptionName) (is : is_number_option option ≡ true) (pieces :
 
 -- ---- a number or the word for the best one
 
--- what is no such word is a number, as it is read
+-- a text that isn't this word is a number, as it is read
 pub number_where : (pieces : List Piece) → list_all fits pieces ≡ true → is_best (value_text EachGamma pieces) ≡ false →
     (may_be_number (value_text EachGamma pieces) ≡ true)
     × (Some (unwrap_or (number_in (value_text EachGamma pieces)) (default_of (kind_of EachGamma))) ≡ each_gamma pieces)

@@ -1,4 +1,4 @@
--- What a line gives that has to be given.
+-- What a line gives that it must give.
 use Rattle.std.proofs.Common.{◌≡◌, ◌∙◌, ◌&&◌, ◌||◌, ◌==◌, ℕ, List, [], ◌∷◌, Some, true, not, length, nat_le, refl, sym, ap, arith}
 use Rattle.std.specs.Prelude.{slice_get, unwrap_or}
 use Rattle.std.specs.List.{list_all}
@@ -12,7 +12,7 @@ use Rattle.command_line.specs.declared.table.OptionName.{OptionName}
 use Rattle.command_line.specs.declared.table.OptionName.TheVariants.{Seed}
 use Rattle.command_line.proofs.Meanings.{value-fits}
 
--- the parts of a line that is right
+-- the parts of a correct line
 pub record IsRight (name : CommandName) (pieces : List Piece) : Type 0 where
   pub fit : list_all fits pieces ≡ true
   pub count : length (files_in pieces) ≡ length (form_of name).files
@@ -30,7 +30,7 @@ parts name pieces all =
     let (fit, count) = and_parts (list_all fits pieces) (length (files_in pieces) == length (form_of name).files) front in
     record { fit = fit; count = as_many (length (files_in pieces)) (length (form_of name).files) count; options = options }
 
--- an option that a line has to give has a value
+-- an option that a line must give has a value
 pub needed_given : (option : OptionName) (pieces : List Piece) → is_needed (kind_of option) ≡ true → is_given_right option pieces ≡ true
     → (v : List ℕ) × (value option pieces ≡ Some v)
 needed_given option pieces needed right = by (values_in option pieces) right where

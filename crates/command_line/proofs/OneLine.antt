@@ -23,7 +23,7 @@ use Rattle.command_line.proofs.Needed.{IsRight, needed_given, parts}
 abbrev AreApart : List OptionName → List OptionName → Type 0
 AreApart these those = (name : List ℕ) → (is_none (option_named these name) || is_none (option_named those name)) ≡ true
 
--- a word of these sorts is a file for both lists, or is right for one of them at most
+-- a word of these sorts is a file for both lists, or is correct for at most one of them
 abbrev agree : WordSort → WordSort → Bool
 agree Unknown _ = true
 agree Dashes Dashes = true
@@ -79,7 +79,7 @@ module _ (these those : List OptionName) (apart : AreApart these those) where
       by false false true h = refl
       by false false false h = refl
 
-  -- where all pieces are right for both, they are files
+  -- if all pieces are correct for both lists, they are files
   same_files : (words : List (List ℕ)) → list_all fits (pieces these words) ≡ true → list_all fits (pieces those words) ≡ true →
       files_in (pieces these words) ≡ files_in (pieces those words)
   same_files [] here there = refl
@@ -107,7 +107,7 @@ module _ (these those : List OptionName) (apart : AreApart these those) where
 
 -- ---- the commands
 
--- no option of the one line of `plurality` is one of the other's
+-- the two lines of `plurality` have no option in common
 lines-apart : AreApart (form_of AuditPlurality).options (form_of OpenPlurality).options
 lines-apart name = by (bytes_eq (codes "draws") name) (bytes_eq-Decides (codes "draws") name).0 where
   by : (b : Bool) → (b ≡ true → codes "draws" ≡ name) →
@@ -126,13 +126,13 @@ not_both words round opening =
 abbrev is_flagged : OptionName → Bool
 is_flagged option = is_flag (kind_of option)
 
--- of two options of one name, the second is no flag, if the first is none
+-- if two options have the same name and the first isn't a flag, the second isn't a flag either
 abbrev is_without : Option OptionName → Option OptionName → Bool
 is_without None _ = true
 is_without (Some a) None = not (is_flagged a)
 is_without (Some a) (Some b) = not (is_flagged a) && not (is_flagged b)
 
--- a word of these sorts is no flag of the second list where it is right for both
+-- a word of these sorts isn't a flag of the second list if it is correct for both lists
 abbrev no_flag : WordSort → WordSort → Bool
 no_flag Unknown _ = true
 no_flag _ Unknown = true
@@ -225,7 +225,7 @@ module _ (without with_it : List OptionName) (flag : OptionName) (is : is_flagge
   files-no_flag [] = refl
   files-no_flag (word ∷ words) = files-no_flag words
 
-  -- where all words are right for both, none is the flag
+  -- if all words are correct for both, none of them is the flag
   no_flag_given : (words : List (List ℕ)) (a b : Option OptionName) → is_some a ≡ is_some b → waits_for_no_flag b ≡ true →
       list_all fits (pieces_from without a words) ≡ true → list_all fits (pieces_from with_it b words) ≡ true →
       values_in flag (pieces_from with_it b words) ≡ []
@@ -269,7 +269,7 @@ module _ (without with_it : List OptionName) (flag : OptionName) (is : is_flagge
   no_flag_given words None (Some b) both free here there = cc
   no_flag_given words (Some a) None both free here there = cc
 
--- where a line has to give a flag, no words are right for it and for a line whose options have no flag's name in it
+-- if a line must give a flag, no words are correct both for it and for a line in which no option has the name of a flag
 not_with_flag : (a b : CommandName) (flag : OptionName) → is_flagged flag ≡ true → is_needed (kind_of flag) ≡ true → has flag (form_of b).options ≡ true →
     list_all (λ option. is_without (Some option) (option_named (form_of b).options (text_of option))) (form_of a).options ≡ true
     → (words : List (List ℕ)) → IsRight a (pieces_of a words) → IsRight b (pieces_of b words) → ⊥
@@ -287,7 +287,7 @@ not_both_polls = not_with_flag Poll PollEach Each refl refl refl refl
 not_both_searches : (words : List (List ℕ)) → IsRight Search (pieces_of Search words) → IsRight SearchFewest (pieces_of SearchFewest words) → ⊥
 not_both_searches = not_with_flag Search SearchFewest Fewest refl refl refl refl
 
--- two commands of one word are the same, or two lines of which only one is right
+-- two commands with the same word are the same, or are two lines of which only one is correct
 one_right : (a b : CommandName) → bytes_eq (form_of a).word (form_of b).word ≡ true → (words : List (List ℕ)) → IsRight a (pieces_of a words) →
     IsRight b (pieces_of b words) → a ≡ b
 one_right Search Search same words here there = refl

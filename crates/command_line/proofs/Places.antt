@@ -1,4 +1,4 @@
--- Where no place passes, nothing passes.
+-- If no place passes, nothing passes.
 use Rattle.std.proofs.Common.{◌≡◌, ◌+◌, ◌||◌, List, [], ◌∷◌, Bool, true, false, not, cond, length, refl, arith}
 use Rattle.std.specs.List.{list_any, position_or_len}
 

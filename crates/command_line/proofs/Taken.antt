@@ -1,4 +1,4 @@
--- A line in its one form is taken by the command that is made for it, which then shows its values: a row a command.
+-- A line in its one form is accepted by the command that is made for it, which then shows its values. There is one row for each command.
 use Rattle.std.proofs.Common.{◌≡◌, refl, rules, true, List}
 use Rattle.clap.specs.Simple.{is_simple, matches_of}
 use Rattle.clap.specs.Takes.{takes}

@@ -1,4 +1,4 @@
--- Words that are pushed one after the other.
+-- Words that are pushed one by one.
 use Rattle.std.proofs.Common.{◌≡◌, ◌∙◌, ◌++◌, ◌+◌, ℕ, List, [], ◌∷◌, String, string_bytes, append_assoc, ap, refl, sym, arith}
 use Rattle.std.specs.declared.alloc.Global.{Global}
 use Rattle.std.proofs.lemmas.List.FromFn.{map-range_with_len_more}

@@ -48,7 +48,7 @@ use Rattle.command_line.specs.declared.table.OptionName.TheVariants.{Workers, No
 abbrev pub LinesHaveMeanings : Type 0
 LinesHaveMeanings = (words : List (List ℕ)) → is_line words ≡ is_some (command_of words)
 
--- Words are a line of at most one command, also if two commands have the same word.
+-- Words are a line of at most one command, even if two commands have the same word.
 abbrev pub LinesAreOfOne : Type 0
 LinesAreOfOne =
     (word : List ℕ) (words : List (List ℕ)) (a b : CommandName) →
@@ -202,7 +202,7 @@ pub record Trials : Type 0 where
       (codes "--nodes=9" ∷ codes "--workers=8" ∷ codes "--ballots=1" ∷ codes "--candidates=32"
       ∷ codes "--number=0" ∷ [])) ≡ true
 
--- ---- what a line asks for that gives what it has to, and leaves all else out
+-- ---- what a line asks for if it gives what it must and leaves out everything else
 
 abbrev default_budget : Budget
 default_budget = budget_of.Nodes DEFAULT_NODES
@@ -330,7 +330,7 @@ default_trial = record {
   budget = default_budget;
 }
 
--- a line of each command, with all its options, and with those alone that it needs
+-- a line of each command with all its options, and one with only the options that it needs
 pub record Meanings : Type 0 where
   pub tabulate :
       command_of (codes "tabulate" ∷ codes "b" ∷ codes "--contest=c" ∷ codes "--nodes=2" ∷ [])
@@ -510,7 +510,7 @@ pub record Meanings : Type 0 where
       command_of (codes "sample" ∷ codes "m" ∷ codes "--seed=-1" ∷ codes "--draws=1" ∷ [])
       ≡ Some (Sample (record { manifest = codes "m"; seed = codes "-1"; draws = 1 }))
 
--- a line of each command that may have a number of sets
+-- a line of each command that accepts a number of sets
 pub record SetsMeanings : Type 0 where
   pub search :
       command_of (codes "search" ∷ codes "b" ∷ codes "--sets=8" ∷ [])
@@ -536,7 +536,7 @@ pub record SetsMeanings : Type 0 where
       command_of (codes "trial" ∷ codes "--sets=8" ∷ codes "--number=0" ∷ [])
       ≡ Some (Trial (record default_trial { budget = budget_of.Sets 8 }))
 
--- words that are no line
+-- words that aren't a line
 pub record NoLines : Type 0 where
   pub part_of_a_word : is_line (codes "searc" ∷ codes "b" ∷ []) ≡ false
   pub longer_word : is_line (codes "searches" ∷ codes "b" ∷ []) ≡ false

@@ -1,4 +1,4 @@
--- What is a line, and what it asks for.
+-- Which words are a line, and what a line asks for.
 use Rattle.std.specs.Prelude.{ℕ, Bool, false, not, ◌&&◌, ◌||◌, ◌==◌, nat_le, List, [], ◌∷◌, length, find, slice_get, Option, None, Some, is_some, unwrap_or, option_map, if◌then◌else◌}
 use Rattle.std.specs.List.{list_all}
 use Rattle.std.specs.Str.{bytes_eq}
@@ -20,7 +20,7 @@ use Rattle.command_line.specs.declared.table.Together.{Together}
 
 -- ---- the rules
 
--- it is there at most once, and once if a line has to give it
+-- the option is given at most once, and exactly once if a line must give it
 abbrev pub is_given_right : OptionName → List Piece → Bool
 is_given_right option pieces =
     let times = length (values_in option pieces) in
@@ -29,22 +29,22 @@ is_given_right option pieces =
 abbrev pub is_given : OptionName → List Piece → Bool
 is_given option pieces = nat_le 1 (length (values_in option pieces))
 
--- if the one is given, the other is given too
+-- if the first option is given, the second is given too
 abbrev pub is_given_together : Together → List Piece → Bool
 is_given_together two pieces = not (is_given two.option pieces) || is_given two.with pieces
 
--- not both are given
+-- at most one of the two options is given
 abbrev pub is_given_apart : Apart → List Piece → Bool
 is_given_apart two pieces = not (is_given two.option pieces && is_given two.other pieces)
 
--- each option is given right, none without the one that it asks for, and none together with one that it excludes
+-- each option is given correctly, never without the one that it needs, and never together with one that it excludes
 abbrev pub are_given : List OptionName → List Together → List Apart → List Piece → Bool
 are_given options together apart pieces =
     list_all (λ option. is_given_right option pieces) options
     && list_all (λ two. is_given_together two pieces) together
     && list_all (λ two. is_given_apart two pieces) apart
 
--- each piece is right, there are as many files as the command has, and its options are given right
+-- each piece is correct, there are as many files as the command has, and its options are given correctly
 abbrev pub are_right : CommandName → List Piece → Bool
 are_right command pieces =
     list_all fits pieces && length (files_in pieces) == length (form_of command).files
@@ -54,12 +54,12 @@ are_right command pieces =
 abbrev pub pieces_of : CommandName → List (List ℕ) → List Piece
 pieces_of command words = pieces (form_of command).options words
 
--- the word is the command's, and the words after it are right
+-- the word is the command's, and the words after it are correct
 abbrev pub is_line_of : CommandName → List ℕ → List (List ℕ) → Bool
 is_line_of command word words =
     bytes_eq (form_of command).word word && are_right command (pieces_of command words)
 
--- the command whose line they are: two commands may have the same word
+-- the command whose line the words are; two commands may have the same word
 abbrev pub line_named : List ℕ → List (List ℕ) → Option CommandName
 line_named word words = find (λ command. is_line_of command word words) commands
 
@@ -83,15 +83,15 @@ contest pieces = value Contest pieces
 abbrev pub seed : List Piece → List ℕ
 seed pieces = unwrap_or (value Seed pieces) []
 
--- the number that is given, if one is
+-- the given number, if there is one
 abbrev pub given_number : OptionName → List Piece → Option ℕ
 given_number option pieces = option_map number (value option pieces)
 
--- or otherwise the default
+-- the given number, or otherwise the default
 abbrev pub number_of : OptionName → List Piece → ℕ
 number_of option pieces = unwrap_or (given_number option pieces) (default_of (kind_of option))
 
--- the number of a text, or none where it is the word for the best one; without a text this number
+-- the number in a text, or none if the text is the word for the best one; without a text, this number
 abbrev pub number_or_best : ℕ → Option (List ℕ) → Option ℕ
 number_or_best default None = Some default
 number_or_best default (Some text) = if is_best text then None else Some (number text)

@@ -1,4 +1,4 @@
--- The one form in which a line is handed to `clap`, and what the matches then show.
+-- The one form in which a line is passed to `clap`, and what the matches then show.
 use Rattle.std.specs.Prelude.{◌≡◌, ℕ, suc, List, [], ◌∷◌, ◌++◌, map, fold, length, Option, None, Some, Result, IfOk, unwrap_or, codes, if◌then◌else◌, Bool, true, ◌&&◌, ◌||◌, ◌==◌, ◌^◌, nat_lt}
 use Rattle.std.specs.List.{range_with_len, list_all}
 use Rattle.std.specs.declared.alloc.AllocError.{AllocError}
@@ -79,22 +79,22 @@ pub record AreOfLine (command : CommandName) (rows : List Row) : Type 0 where
   pub right : are_right command pieces ≡ true
   pub shows : Shows command pieces rows
 
--- they show a seed
+-- the matches show a seed
 abbrev pub HasSeed : List Row → Type 0
 HasSeed rows = (text : List ℕ) × (is_seed text ≡ true) × (first_of (text_of Seed) rows ≡ Some text)
 
--- it is the command that the pieces mean which are shown, if there is one
+-- the result, if there is one, is the command that the pieces mean whose matches are shown
 abbrev pub IsMeant : CommandName → List Row → Result Command AllocError → Type 0
 IsMeant name rows result =
     (pieces : List Piece) → list_all fits pieces ≡ true → Shows name pieces rows →
     IfOk result (λ command. command ≡ meaning name pieces)
 
--- ---- a text that is handed on
+-- ---- a text that is passed on
 
 abbrev pub name_in : List ℕ → Option Id
 name_in text = if is_name text then Some text else None
 
--- a number that has room, or no text
+-- the text is a number that has room, or there is no text
 abbrev pub may_be_number : List ℕ → Bool
 may_be_number text = length text == 0 || (is_number text && nat_lt (number text) (2 ^ 32))
 

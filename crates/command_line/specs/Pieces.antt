@@ -63,8 +63,8 @@ word_sort options word =
 abbrev pub value_piece : OptionName → List ℕ → Piece
 value_piece option word = if begins_with_hyphen word then Stray else Given option word
 
--- the pieces of a word of this sort and of the words after it. Of these, more gives the pieces, the first of them being the value of
--- the option that waits for one, if one does.
+-- the pieces of a word of this sort and of the words after it. more gives the pieces of the words after it; if an option waits for a value,
+-- the first of these words is its value.
 abbrev pub pieces_at : WordSort → List ℕ → List (List ℕ) → (Option OptionName → List Piece) →
     List Piece
 pieces_at Dashes word words more = map File words
@@ -85,7 +85,7 @@ pieces_from options None (word ∷ words) =
 abbrev pub pieces : List OptionName → List (List ℕ) → List Piece
 pieces options words = pieces_from options None words
 
--- the pieces of words all of which are files, or aren't
+-- the pieces of words, all of which are files if only_files is set
 abbrev pub pieces_left : Bool → List OptionName → List (List ℕ) → List Piece
 pieces_left only_files options words = if only_files then map File words else pieces options words
 

@@ -1,4 +1,4 @@
--- The commands and the options: a line for each.
+-- The commands and the options, one line for each.
 use Rattle.std.specs.Prelude.{ℕ, Bool, true, false, List, [], ◌∷◌, None, Some, is_none, unwrap_or, codes}
 use Rattle.irv_base.specs.declared.limits.TheConstants.{FEWEST_CANDIDATES, GREATEST_GAMMA, GREATEST_LIMIT, MOST_CANDIDATES, MOST_CARDS, MOST_DRAWS, MOST_RECORDS, MOST_WORKERS}
 use Rattle.budget.specs.declared.limits.TheConstants.{MOST_NODES, DEFAULT_NODES, MOST_SETS}
@@ -13,8 +13,8 @@ use Rattle.command_line.specs.declared.table.Together.{Together}
 use Rattle.command_line.specs.declared.table.ValueKind.{ValueKind}
 use Rattle.command_line.specs.declared.table.ValueKind.TheVariants.{Id, Seed, Number, FreeNumber, NumberOrBest, Flag}
 
--- what a line of a command has: its word, its files in order, the options that it may have, which of them it may give only together
--- with others, and which only without others
+-- what a line of a command has: its word, its files in order, the options that it may have, the options that it may give only together
+-- with others, and the options that it may give only without others
 pub record Form : Type 0 where
   pub word : List ℕ
   pub files : List (List ℕ)
@@ -22,12 +22,12 @@ pub record Form : Type 0 where
   pub together : List Together
   pub apart : List Apart
 
--- options that don't depend on each other
+-- a form whose options don't depend on each other
 abbrev row : List ℕ → List (List ℕ) → List OptionName → Form
 row word files options =
     record { word = word; files = files; options = options; together = []; apart = [] }
 
--- a budget is of nodes or of sets
+-- a form whose budget is in nodes or in sets
 abbrev budget_row : List ℕ → List (List ℕ) → List OptionName → Form
 budget_row word files options = record (row word files options) {
   apart = record { option = option.Nodes; other = option.Sets } ∷ [];
@@ -98,8 +98,8 @@ commands =
     Search ∷ SearchFewest ∷ Tabulate ∷ Check ∷ Trim ∷ Adopt ∷ Sample ∷ Plan ∷ Open ∷ Audit ∷ Report ∷ Poll
     ∷ PollEach ∷ OpenPlurality ∷ AuditPlurality ∷ Contests ∷ Trial ∷ []
 
--- an option's name, without the hyphens. The gamma of a poll with a look after each draw has the name of the gamma, and the sets of a
--- search for the fewest NENs that of the sets
+-- an option's name, without the hyphens. The gamma of a poll with a look after each draw has the same name as the gamma, and the sets of a
+-- search for the fewest NENs have the same name as the sets
 abbrev pub text_of : OptionName → List ℕ
 text_of option.Contest = codes "contest"
 text_of option.Workers = codes "workers"
@@ -120,7 +120,7 @@ text_of option.Number = codes "number"
 text_of option.Candidates = codes "candidates"
 text_of option.Ballots = codes "ballots"
 
--- what its value may be
+-- what the value of an option may be
 abbrev pub kind_of : OptionName → ValueKind
 kind_of option.Contest = Id
 kind_of option.Workers = Number 1 MOST_WORKERS (Some DEFAULT_WORKERS)
@@ -141,7 +141,7 @@ kind_of option.Number = Number 0 MOST_TRIAL_NUMBER None
 kind_of option.Candidates = Number FEWEST_CANDIDATES MOST_CANDIDATES (Some DEFAULT_CANDIDATES)
 kind_of option.Ballots = Number 1 MOST_RECORDS (Some DEFAULT_BALLOTS)
 
--- they are one option
+-- the two are one option
 abbrev pub is_same : OptionName → OptionName → Bool
 is_same option.Contest option.Contest = true
 is_same option.Workers option.Workers = true
@@ -174,12 +174,12 @@ is_number_kind Flag = false
 abbrev pub is_number_option : OptionName → Bool
 is_number_option option = is_number_kind (kind_of option)
 
--- the option stands by itself
+-- the option has no value
 abbrev pub is_flag : ValueKind → Bool
 is_flag Flag = true
 is_flag _ = false
 
--- a line has to give it
+-- a line must give the option
 abbrev pub is_needed : ValueKind → Bool
 is_needed Id = false
 is_needed Seed = true
@@ -188,7 +188,7 @@ is_needed (FreeNumber least most) = false
 is_needed (NumberOrBest least most default) = false
 is_needed Flag = true
 
--- the number of a line that doesn't give it
+-- the number for a line that doesn't give the option
 abbrev pub default_of : ValueKind → ℕ
 default_of Id = 0
 default_of Seed = 0

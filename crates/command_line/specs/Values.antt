@@ -10,7 +10,7 @@ use Rattle.irv_base.specs.declared.limits.TheConstants.{MOST_NUMBER_DIGITS}
 use Rattle.command_line.specs.declared.table.ValueKind.{ValueKind}
 use Rattle.command_line.specs.declared.table.ValueKind.TheVariants.{Id, Seed, Number, FreeNumber, NumberOrBest, Flag}
 
--- 1 to MOST_NUMBER_DIGITS digits, leading zeros allowed
+-- 1 to MOST_NUMBER_DIGITS digits; leading zeros are allowed
 abbrev pub is_number : List ℕ → Bool
 is_number text = nat_le 1 (length text) && nat_le (length text) MOST_NUMBER_DIGITS
     && list_all is_ascii_digit text

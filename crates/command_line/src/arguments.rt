@@ -15,7 +15,7 @@ use irv_base::Name;
 use sampler::Seed;
 use std::alloc::{AllocError, Global};
 
-// The text that the matches have of an option or a file.
+// The text that the matches have for an option or a file.
 fn text<'a>(matches: &ArgMatches<'a>, id: &str) -> &'a str
     ensures { (text : List ℕ) → first_of id.now (rows_of (found_of matches.now)) ≡ Some text
         → result.now ≡ text }
@@ -67,7 +67,7 @@ pub fn given_number(option: OptionName, matches: &ArgMatches<'_>) -> Option<u32>
     number_in(text(matches, option.text()))
 }
 
-/// The number that a line gives, or the one of a line that doesn't.
+/// The number that a line gives, or the default if it gives none.
 pub fn number(option: OptionName, matches: &ArgMatches<'_>) -> u32
     requires { IsTrue (is_number_option option) }
     ensures { (pieces : List Piece) → list_all fits pieces ≡ true
@@ -77,8 +77,8 @@ pub fn number(option: OptionName, matches: &ArgMatches<'_>) -> u32
     given_number(option, matches).unwrap_or(option.kind().default())
 }
 
-/// The gamma of a poll with a look after each draw: the number that a line gives, or the one of a line that doesn't. There is none if it
-/// says `BEST`.
+/// The gamma of a poll with a look after each draw: the number that a line gives, or the default if it gives none. There is no gamma if the
+/// line says `BEST`.
 pub fn each_gamma(matches: &ArgMatches<'_>) -> Option<u32>
     ensures { (pieces : List Piece) → list_all fits pieces ≡ true
         → IsShown OptionName.EachGamma pieces (rows_of (found_of matches.now))

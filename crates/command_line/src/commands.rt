@@ -20,42 +20,42 @@ use command::{
 use irv_base::Memory;
 use std::alloc::{AllocError, Global};
 
-/// A command with what it is asked to do. Its files are named, and are read by nobody yet.
+/// A command with what it is asked to do. Its files are named, but not read yet.
 #[derive(Drop)]
 pub enum Command {
     /// The assertions that confirm the winner of a contest, or why there are none.
     Search(SearchTask),
-    /// Such assertions with the fewest NENs.
+    /// Assertions like these with the fewest NENs.
     SearchFewest(SearchFewestTask),
     /// The rounds of a contest, or its first tie if that leaves open who has won.
     Tabulate(TabulateTask),
-    /// Whether an assertion file holds of the ballots of a contest.
+    /// Whether an assertion file holds for the ballots of a contest.
     Check(CheckTask),
-    /// An assertion file without the claims that can go.
+    /// An assertion file without the claims that can be removed.
     Trim(TrimTask),
     /// An assertion file with the assertions of a claims file.
     Adopt(AdoptTask),
     /// The cards that a seed draws.
     Sample(SampleTask),
-    /// How many draws a clean audit takes.
+    /// The number of draws that a clean audit takes.
     Plan(PlanTask),
     /// The session of an audit before its first round.
     Open(OpenTask),
-    /// The session with a round more.
+    /// The session with one more round.
     Audit(AuditTask),
     /// What a session says.
     Report(ReportTask),
     /// Whether what is on the drawn cards confirms the assertions, with no card matched to its record.
     Poll(PollTask),
-    /// The same, with a look after each draw.
+    /// The same as `Poll`, with a look after each draw.
     PollEach(PollEachTask),
     /// The session of an audit of first preferences, before its first round.
     OpenPlurality(OpenPluralityTask),
-    /// The session of an audit of first preferences with a round more.
+    /// The session of an audit of first preferences with one more round.
     AuditPlurality(AuditPluralityTask),
     /// One round of an audit of each contest of a ballot file.
     Contests(ContestsTask),
-    /// What a search of a contest whose records are drawn from a number is asked to do.
+    /// A search of a contest whose records are drawn from a number.
     Trial(TrialTask),
 }
 
@@ -276,7 +276,7 @@ fn trial(matches: &ArgMatches<'_>) -> Command
     })
 }
 
-// The command of the matches of its line.
+// Reads the command from the matches of its line.
 fn read_command(
     alloc: Global,
     name: CommandName,
@@ -306,7 +306,7 @@ fn read_command(
     }
 }
 
-// The command of a line that begins with the command's word.
+// Reads the command from a line that begins with the command's word.
 fn read_line(alloc: Global, name: CommandName, words: &[String]) -> Result<Command, Memory>
     requires { are_right name (pieces_of name (texts words.now)) ≡ true }
     ensures { IfOk result (λ command. command ≡ meaning name (pieces_of name (texts words.now))) }
@@ -318,7 +318,7 @@ fn read_line(alloc: Global, name: CommandName, words: &[String]) -> Result<Comma
     }
 }
 
-/// The command that the words ask for. There is none exactly if they are no line.
+/// Returns the command that the words ask for. There is none exactly if the words aren't a line.
 ///
 /// # Errors
 ///

@@ -1,4 +1,4 @@
-//! The laws of lines: each holds of all words, and has no code.
+//! The laws of lines: each holds for all words, and has no code.
 ghost use Rattle.command_line.specs.Laws.{LinesHaveMeanings, LinesAreOfOne, LinesAreChecked, Examples, Searches, Samples, Trials, Meanings, SetsMeanings, NoLines};
 
 /// Words are a line exactly if they have a meaning.
@@ -36,7 +36,7 @@ pub fn trial_lines()
     ensures { Trials }
 {}
 
-/// Lines of each command, and what they ask for.
+/// Lines for each command, and what they ask for.
 pub fn meanings()
     ensures { Meanings }
 {}
@@ -46,7 +46,7 @@ pub fn sets_meanings()
     ensures { SetsMeanings }
 {}
 
-/// Words that are no line.
+/// Words that aren't a line.
 pub fn no_lines()
     ensures { NoLines }
 {}

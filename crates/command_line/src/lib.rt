@@ -1,4 +1,4 @@
-//! The words of a call: which are a line, and the command with checked arguments that a line asks for.
+//! The words of a call: which words are a line, and the command with checked arguments that a line asks for.
 #![tactic(auto)]
 
 mod arguments;

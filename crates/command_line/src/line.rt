@@ -1,4 +1,4 @@
-// What is a line.
+// Which words are a line.
 ghost use Rattle.std.specs.Prelude.{◌≡◌, length};
 ghost use Rattle.std.specs.List.{list_all};
 ghost use Rattle.command_line.specs.Words.{texts};
@@ -20,7 +20,7 @@ fn times_given(option: OptionName, pieces: Pieces<'_>) -> usize
     pieces.filter(|piece| piece.gives(option)).count()
 }
 
-// Whether an option is there at most once, and once if a line has to give it.
+// Whether an option is given at most once, and exactly once if a line must give it.
 fn is_given_right(option: OptionName, pieces: Pieces<'_>) -> bool
     ensures { result ≡ is_given_right option pieces.entry }
 {
@@ -81,7 +81,7 @@ fn are_given(
         && are_given_apart(options, apart, words)
 }
 
-// Whether the words after its word are right.
+// Whether the words after the command's word are correct.
 fn are_right(command: CommandName, words: &[String]) -> bool
     ensures { result ≡ are_right command (pieces_of command (texts words.now)) }
 {
@@ -107,7 +107,7 @@ pub fn line_named(word: &str, words: &[String]) -> Option<CommandName>
         .find(|command| is_line_of(*command, word, words))
 }
 
-/// Whether the words of a call, without the program's own name, are a line. No memory is taken.
+/// Whether the words of a call, without the program's own name, are a line. Allocates no memory.
 pub fn is_line(words: &[String]) -> bool
     ensures { result ≡ is_line (texts words.now) }
 {

@@ -54,7 +54,7 @@ fn app<'a>(alloc: Global, form: Form<'a>) -> Result<Command<'a>, AllocError>
     with_files(alloc, app, form.files)
 }
 
-/// The matches of a line in its one form. There may be none for want of memory only.
+/// Returns the matches of a line in its one form. It fails only if memory runs out.
 pub fn matches_of<'a>(
     alloc: Global,
     command: CommandName,

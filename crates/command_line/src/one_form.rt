@@ -1,5 +1,5 @@
-// The one form in which a line is given to `clap`: the command's word, each of its options as `--name=value`, or `--name=` if it isn't
-// given, a word `--`, and the files.
+// The one form in which a line is passed to `clap`: the command's word, each of its options as `--name=value` (or as `--name=` if it isn't
+// given), a word `--`, and the files.
 ghost use Rattle.std.specs.Prelude.{◌≡◌, ◌++◌, IfOk, OnOk, string_bytes};
 ghost use Rattle.command_line.specs.Words.{texts};
 ghost use Rattle.command_line.specs.Line.{file, value, pieces_of};

@@ -43,7 +43,7 @@ fn option_named(options: &[OptionName], name: &str) -> Option<OptionName>
     options.iter().copied().find(|option| option.text() == name)
 }
 
-// `--name`, of this option if it is one.
+// The word `--name`, for this option if there is one.
 fn named<'w>(option: Option<OptionName>) -> WordSort<'w>
     ensures { sort result ≡ named option }
 {
@@ -59,7 +59,7 @@ fn named<'w>(option: Option<OptionName>) -> WordSort<'w>
     }
 }
 
-// `--name=value`, of this option if it is one.
+// The word `--name=value`, for this option if there is one.
 fn valued<'w>(option: Option<OptionName>, value: &'w str) -> WordSort<'w>
     ensures { sort result ≡ valued option value.now }
 {
@@ -155,7 +155,7 @@ impl<'w> Piece<'w> {
     }
 }
 
-/// The pieces that are still to come.
+/// The pieces that haven't been read yet.
 #[derive(Drop)]
 pub struct Pieces<'w> {
     words: Iter<'w, String>,
@@ -173,7 +173,7 @@ impl<'w> Model for Pieces<'w> {
 
     ghost view = { λ s. pieces_left s.only_files s.options.now (texts (iter_rest s.words)) };
 
-    // They can be counted.
+    // The pieces can be counted.
     ghost invariant = { λ s.
         length (pieces_left s.only_files s.options.now (texts (iter_rest s.words))) < 2 ^ 64 };
 }

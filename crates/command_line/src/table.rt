@@ -1,4 +1,4 @@
-// The commands and the options: a line for each.
+// The commands and the options, one line for each.
 ghost use Rattle.std.specs.Prelude.{◌≡◌, [], map};
 ghost use Rattle.command_line.specs.Table.{form_of, text_of, kind_of, is_flag, is_needed, is_same, default_of};
 ghost use Rattle.command_line.specs.declared.table.ValueKind.TheVariants.{Number, FreeNumber, NumberOrBest};
@@ -14,28 +14,28 @@ use irv_base::{
 };
 use km_risk::GREATEST_EACH_GAMMA;
 
-/// The commands that there are.
+/// The commands.
 #[derive(Clone, Copy, Debug, PartialEq, Eq)]
 pub enum CommandName {
     /// `search`: the assertions that confirm a winner.
     Search,
-    /// `search` with `--fewest`: such assertions with the fewest NENs.
+    /// `search` with `--fewest`: assertions like these with the fewest NENs.
     SearchFewest,
     /// `tabulate`: the rounds of a contest.
     Tabulate,
     /// `check`: whether an assertion file holds.
     Check,
-    /// `trim`: an assertion file without the claims that can go.
+    /// `trim`: an assertion file without the claims that can be removed.
     Trim,
     /// `adopt`: an assertion file with the assertions of a claims file.
     Adopt,
     /// `sample`: the cards that a seed draws.
     Sample,
-    /// `plan`: how many draws a clean audit takes.
+    /// `plan`: the number of draws that a clean audit takes.
     Plan,
     /// `open`: the session of an audit before its first round.
     Open,
-    /// `audit`: the session with a round more.
+    /// `audit`: the session with one more round.
     Audit,
     /// `report`: what a session says.
     Report,
@@ -43,54 +43,54 @@ pub enum CommandName {
     Poll,
     /// `poll` with `--each`: the same, with a look after each draw.
     PollEach,
-    /// `plurality` of two files: the session of an audit of first preferences, before its first round.
+    /// `plurality` with two files: the session of an audit of first preferences, before its first round.
     OpenPlurality,
-    /// `plurality` of four files: that session with a round more.
+    /// `plurality` with four files: that session with one more round.
     AuditPlurality,
     /// `contests`: one round of an audit of each contest of a file.
     Contests,
-    /// `trial`: what a search of a drawn contest comes to.
+    /// `trial`: the result of a search of a drawn contest.
     Trial,
 }
 
-/// The options that there are.
+/// The options.
 #[derive(Clone, Copy, Debug, PartialEq, Eq)]
 pub enum OptionName {
     /// The id of a contest.
     Contest,
-    /// How many threads search.
+    /// The number of threads that search.
     Workers,
-    /// The most suffixes that a race may expand for one piece, or that may count for one candidate.
+    /// The maximum number of suffixes that a race may expand for one piece, or that may count for one candidate.
     Nodes,
-    /// The most sets of candidates that may count, in place of suffixes.
+    /// The maximum number of sets of candidates that may count, in place of suffixes.
     Sets,
-    /// The most sets that may stand in a search for the fewest NENs. Its name is that of the sets.
+    /// The maximum number of sets that may stand in a search for the fewest NENs. It has the same name as `Sets`.
     FewestSets,
-    /// That a search is for the fewest NENs.
+    /// Makes a search one for the fewest NENs.
     Fewest,
-    /// The least margin of a search, in votes.
+    /// The smallest margin of a search, in votes.
     Floor,
     /// How far below the best margin a search for the fewest NENs may end, in thousandths of it.
     Gap,
-    /// How many cards the manifest will have, for an assertion file that carries its clean draws.
+    /// The number of cards that the manifest will have, for an assertion file that carries its clean draws.
     Cards,
     /// The seed of the draws.
     Seed,
-    /// How many draws, counted from the first of the audit.
+    /// The number of draws, counted from the first draw of the audit.
     Draws,
     /// The risk limit, in millionths.
     Limit,
     /// The gamma, in thousandths.
     Gamma,
-    /// The gamma of a poll with a look after each draw, in thousandths or as a word. Its name is that of the gamma.
+    /// The gamma of a poll with a look after each draw, in thousandths or as a word. It has the same name as `Gamma`.
     EachGamma,
-    /// That a poll looks after each draw.
+    /// Makes a poll look after each draw.
     Each,
     /// The number that a trial is drawn from.
     Number,
-    /// How many candidates a trial has.
+    /// The number of candidates in a trial.
     Candidates,
-    /// How many ballots a trial has.
+    /// The number of ballots in a trial.
     Ballots,
 }
 
@@ -99,38 +99,38 @@ pub enum OptionName {
 pub enum ValueKind {
     /// An id. A line may leave it out.
     Id,
-    /// A seed. A line has to give it.
+    /// A seed. A line must give it.
     Seed,
     /// A number within these limits. A line may omit it if it has a default.
     Number {
-        /// The least number.
+        /// The smallest number.
         least: u32,
         /// The greatest number.
         most: u32,
-        /// The number of a line that doesn't give one. Without it a line has to give one.
+        /// The number for a line that doesn't give one. Without this default, a line must give one.
         default: Option<u32>,
     },
-    /// A number within these limits. A line may leave it out, and has no number for that case.
+    /// A number within these limits. A line may leave it out, and there is no default for that case.
     FreeNumber {
-        /// The least number.
+        /// The smallest number.
         least: u32,
         /// The greatest number.
         most: u32,
     },
     /// A number within these limits, or the word `BEST`. A line may leave it out.
     NumberOrBest {
-        /// The least number.
+        /// The smallest number.
         least: u32,
         /// The greatest number.
         most: u32,
-        /// The number of a line that doesn't give one.
+        /// The number for a line that doesn't give one.
         default: u32,
     },
-    /// Nothing: the option stands by itself. A line has to give it.
+    /// Nothing: the option has no value. A line must give the option.
     Flag,
 }
 
-/// An option that a line may give only if it gives another one too.
+/// An option that a line may give only if it also gives another one.
 #[derive(Clone, Copy, Debug, PartialEq, Eq)]
 pub struct Together {
     /// The option.
@@ -139,28 +139,28 @@ pub struct Together {
     pub with: OptionName,
 }
 
-/// Two options of which a line may give one alone.
+/// Two options that a line may not give together.
 #[derive(Clone, Copy, Debug, PartialEq, Eq)]
 pub struct Apart {
-    /// The one option.
+    /// The first option.
     pub option: OptionName,
-    /// The other.
+    /// The second option.
     pub other: OptionName,
 }
 
-/// What a line of a command has: its word, its files in order, the options that it may have, which of them it may give only together
-/// with others, and which only without others.
+/// What a line of a command has: its word, its files in order, the options that it may have, the options that it may give only together
+/// with others, and the options that it may give only without others.
 #[derive(Clone, Copy)]
 pub struct Form<'f> {
     /// The command's word.
     pub word: &'f str,
-    /// The names of its files, in their order on a line.
+    /// The names of its files, in the order in which a line gives them.
     pub files: &'f [&'f str],
     /// The options that a line may have, in any order.
     pub options: &'f [OptionName],
-    /// Those of them that ask for another one.
+    /// The options that need another one.
     pub together: &'f [Together],
-    /// Those of them that exclude each other.
+    /// The options that exclude each other.
     pub apart: &'f [Apart],
 }
 
@@ -203,10 +203,10 @@ pub const SESSION: &str = "session";
 /// The name of a file of seen cards.
 pub const SEEN: &str = "seen";
 
-/// The word for the gamma that fits the margin of each assertion.
+/// The word that asks for the gamma that fits the margin of each assertion.
 pub const BEST: &str = "best";
 
-// A budget is of nodes or of sets.
+// A budget is in nodes or in sets.
 const BUDGETS: [Apart; 1] = [Apart {
     option: OptionName::Nodes,
     other: OptionName::Sets,
@@ -235,7 +235,7 @@ const SEARCH_FEWEST_OPTIONS: [OptionName; 9] = [
     OptionName::Fewest,
 ];
 
-// Without a number of cards no draws are planned.
+// No draws are planned without a number of cards.
 const SEARCH_TOGETHER: [Together; 2] = [
     Together {
         option: OptionName::Limit,
@@ -247,7 +247,7 @@ const SEARCH_TOGETHER: [Together; 2] = [
     },
 ];
 
-// For a check, for a trim, and for an adoption.
+// The options of `check`, `trim` and `adopt`.
 const CHECK_OPTIONS: [OptionName; 3] = [OptionName::Contest, OptionName::Nodes, OptionName::Sets];
 
 const OPEN_OPTIONS: [OptionName; 6] = [
@@ -495,7 +495,7 @@ impl OptionName {
         }
     }
 
-    /// Whether it is the other option. Two options may have one name.
+    /// Whether it is the same option as the other. Two options may have the same name.
     pub fn is_same(self, other: OptionName) -> bool
         ensures { result ≡ is_same self other }
     {
@@ -504,14 +504,14 @@ impl OptionName {
 }
 
 impl ValueKind {
-    /// Whether the option stands by itself.
+    /// Whether the option has no value.
     pub fn is_flag(self) -> bool
         ensures { result ≡ is_flag self }
     {
         matches!(self, ValueKind::Flag)
     }
 
-    /// Whether a line has to give a value of this kind.
+    /// Whether a line must give a value of this kind.
     pub fn is_needed(self) -> bool
         ensures { result ≡ is_needed self }
     {
@@ -523,7 +523,7 @@ impl ValueKind {
         }
     }
 
-    /// The number of a line that doesn't give it.
+    /// The number for a line that doesn't give the option.
     pub fn default(self) -> u32
         ensures { result ≡ default_of self }
     {

@@ -20,7 +20,7 @@ fn is_number(text: &str) -> bool
     !text.is_empty() && text.len() <= MOST_NUMBER_DIGITS && are_digits(text.as_bytes())
 }
 
-/// The number that is written in 1 to `MOST_NUMBER_DIGITS` digits.
+/// Reads a number that is written in 1 to `MOST_NUMBER_DIGITS` digits.
 pub fn number(text: &str) -> u64
     requires { IsTrue (is_number text.now) }
     ensures { result ≡ number text.now }

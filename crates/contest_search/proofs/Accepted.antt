@@ -1,4 +1,4 @@
--- What a search finds, the checker accepts, with the draws of a clean audit or without.
+-- The checker accepts what a search finds, with or without the draws of a clean audit.
 use Rattle.std.proofs.Common.{◌≡◌, ℕ, true, List, length, Option, Some, None, Ok, IfSome, refl, sym, ap, subst, arith, ◌∙◌}
 use Rattle.budget.specs.declared.budget.Budget.{Budget}
 use Rattle.budget.specs.declared.budget.Budget.TheVariants.{Nodes, Sets}
@@ -34,7 +34,7 @@ use Rattle.contest_search.proofs.Findings.{best-margin, claim-sound}
 use Rattle.contest_search.proofs.Plans.{plan_clean, plan_sound}
 use Rattle.contest_search.proofs.ReadBallots.{IsFit, ballots_fit}
 
--- it is the certificate of these ballots, reads back from its text, and is accepted
+-- it is the certificate of these ballots, can be read back from its text, and is accepted
 abbrev pub IsTaken : Budget → BallotFile → Content → Type 0
 IsTaken budget ballots file =
     IsCertificateOf ballots file × (assertion_file_of (assertion_file_text file) ≡ Ok file) × IsAnswer budget ballots file (Ok Accepted)
@@ -105,7 +105,7 @@ module _ (ballots : BallotFile) (fit : IsFit ballots) (winner : ℕ) (won : IsWo
       IsInBudget ballots winner budget → IsTaken budget ballots file
   taken planned clean budget within = (says clean, reads planned, accepted planned clean budget within)
 
--- whatever clean draws it carries, it is the certificate, reads back and is accepted
+-- whatever clean draws it carries, it is the certificate, can be read back and is accepted
 pub accepted_with : (budget : Budget) (bytes : List ℕ) (asked : Option Id) (ballots : BallotFile) (file : Content) (plan : Option Plan) →
     ballots_of bytes asked ≡ Ok ballots → IsFoundIn budget ballots file → IfSome plan (IsSoundPlan file.records (length file.claims)) →
     IfSome plan (IsPlanOf file.claims) → IsTaken budget ballots (record file { plan = plan })

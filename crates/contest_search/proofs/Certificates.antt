@@ -1,4 +1,4 @@
--- A contest has one certificate, and it has one where it is decided.
+-- A contest has at most one certificate, and it has one if it is decided.
 use Rattle.std.proofs.Common.{◌≡◌, ℕ, ◌<◌, Some, refl, sym, ap, subst, ◌∙◌}
 use Rattle.assertions.proofs.Alternatives.{order_is}
 use Rattle.ballots.specs.Ballots.{BallotFile}

@@ -1,4 +1,4 @@
--- What a search for the fewest NENs finds, the checker accepts, with the draws of a clean audit or without.
+-- The checker accepts what a search for the fewest NENs finds, with or without the draws of a clean audit.
 use Rattle.std.proofs.Common.{◌≡◌, ℕ, ◌<◌, ◌≤◌, Bool, true, ◌&&◌, ◌==◌, if◌then◌else◌, nat_le, List, length, Option, Some, None, Ok, All, Contains, IfSome, refl, sym, ap, subst, arith, eq-eqb, eqb-true, ◌∙◌}
 use Rattle.std.proofs.lemmas.Bool.{and_parts}
 use Rattle.std.proofs.lemmas.List.Elements.{All-contains}
@@ -45,7 +45,7 @@ use Rattle.contest_search.proofs.OwnMargin.{by-order, own, own-reached, own-smal
 use Rattle.contest_search.proofs.Plans.{plan_clean, plan_sound}
 use Rattle.contest_search.proofs.ReadBallots.{IsFit, ballots_fit}
 
--- it holds of these ballots, reads back from its text, and is accepted
+-- it holds for these ballots, can be read back from its text, and is accepted
 abbrev pub IsTaken : ℕ → BallotFile → Content → Type 0
 IsTaken sets ballots file =
     Holds ballots file × (assertion_file_of (assertion_file_text file) ≡ Ok file) × IsAnswer (Sets sets) ballots file (Ok Accepted)

@@ -1,4 +1,4 @@
--- What a search for the fewest NENs finds, from what its parts answer.
+-- What a search for the fewest NENs finds, given what its parts answer.
 use Rattle.std.proofs.Common.{◌≡◌, ℕ, ◌<◌, ◌≤◌, true, ◌&&◌, nat_le, List, length, All, Some, refl, sym, subst, arith, ◌∙◌}
 use Rattle.std.proofs.lemmas.Bool.{and_parts}
 use Rattle.std.proofs.lemmas.List.Elements.{All-contains}

@@ -1,4 +1,4 @@
--- A search for the fewest NENs is spent exactly if more sets are needed: no budget has two ends.
+-- A search for the fewest NENs runs out of budget exactly if more sets are needed, because no budget has two ends.
 use Rattle.std.proofs.Common.{◌≡◌, ℕ, ◌<◌, ◌≤◌, ◌==◌, List, inl, inr, sym, ap, subst, arith, ◌∙◌}
 use Rattle.std.specs.Prelude.{max, if◌then◌else◌}
 use Rattle.std.proofs.lemmas.Bool.{cases_lt}
@@ -45,7 +45,7 @@ module _ (ballots : BallotFile) (sets : ℕ) where
         let same = ap (fewest_sets_of ballots) (winner-one ballots found.winner is.winner found.won is.won) in
         omega (arith, within, above, same)
 
-    -- nor is a tie told
+    -- nor is a tie reported
     pub never_told : 1 < candidate_count ballots → IsUndecided ballots → IsTold (Sets sets) ballots → IsSpentFewest sets ballots order margin → ⊥
     never_told two undecided told is =
         let n = candidate_count ballots in

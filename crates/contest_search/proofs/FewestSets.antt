@@ -1,4 +1,4 @@
--- How many sets suffice for a search for the fewest NENs, and where they don't.
+-- The number of sets that suffice for a search for the fewest NENs, and when they don't.
 use Rattle.std.proofs.Common.{◌≡◌, ℕ, zero, suc, ◌-◌, ◌^◌, ◌<◌, ◌≤◌, List, ap, arith}
 use Rattle.ballots.specs.Ballots.{BallotFile}
 use Rattle.fewest_search.specs.Sets.{fewest_sets}

@@ -1,4 +1,4 @@
--- What a search finds, from what its parts answer.
+-- What a search finds, given what its parts answer.
 use Rattle.std.proofs.Common.{◌≡◌, ◌↔◌, inl, inr, ℕ, ◌<◌, ◌≤◌, true, List, length, All, Some, None, refl, sym, ap, subst, arith, ltb-true, ◌∙◌}
 use Rattle.std.proofs.lemmas.List.Sums.{count_by-le-length}
 use Rattle.budget.specs.declared.budget.Budget.{Budget}
@@ -51,7 +51,7 @@ best_of : (ballots : BallotFile) (bag : Kept) (t : Tabulated) (end : RaceEnd) �
     IsBest (candidate_count ballots) ballots.rankings t.winner end
 best_of ballots bag t end c best = subst (λ n. IsBest n ballots.rankings t.winner end) c.candidates (best ballots.rankings c.records)
 
--- ---- a budget that is spent
+-- ---- a search that runs out of budget
 
 pub race-spent : (ballots : BallotFile) (t : Tabulated) (nodes last upper : ℕ) (order : List ℕ) → IsTabulation (candidate_count ballots) ballots.rankings t →
     IsTooMuch (candidate_count ballots) ballots.rankings t nodes last upper order → IsSpent nodes ballots last order upper
@@ -249,7 +249,7 @@ module _ (ballots : BallotFile) (bag : Kept) (t : Tabulated) (counted : IsCounte
   decided_there = let is = tabulated_there in
       decided_exactly (candidate_count ballots) t.winner ballots.rankings t.order counted.two is.order is.tabulated is.winner
 
-  -- a margin of 0 tells that the contest isn't decided, and another that it is
+  -- a margin of 0 shows that the contest isn't decided, and any other margin shows that it is
   pub undecided_at_0 : (end : RaceEnd) → IsBestOf bag t end → end.margin ≡ 0 → IsUndecided ballots
   undecided_at_0 end best zero d =
       let some = decided_there.0 d in

@@ -1,4 +1,4 @@
--- How many nodes suffice for a search, and that one that is spent needs more than it has.
+-- The number of nodes that suffice for a search, and that a search that is out of budget needs more than it has.
 use Rattle.std.proofs.Common.{◌⊎◌, inl, inr, ℕ, [], ◌<◌, ◌≤◌, ◌-◌, ◌*◌, List, Option, None, Some, arith}
 use Rattle.assertions.specs.Suffixes.{factorial}
 use Rattle.assertions.specs.Certificate.{cover_count}

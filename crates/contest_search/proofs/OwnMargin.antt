@@ -31,7 +31,7 @@ module _ (claims : List Claim) where
       let (other, there, e) = own-reached claim k in
       subst (IsMargin records) e (All-contains (IsSoundClaim n records) claims other sound there).margin
 
--- where there are some
+-- if there are any
 pub some-sound : (n records : ℕ) (claims : List Claim) → 1 ≤ length claims → All (IsSoundClaim n records) claims → IsMargin records (own claims)
 some-sound n records [] some sound = absurd (omega (arith, some))
 some-sound n records (claim ∷ more) some sound = own-sound (claim ∷ more) n records sound claim (contains-from_member here)

@@ -1,4 +1,4 @@
--- What is read of a ballot file: how many candidates and records there are, and that ids keep their rule.
+-- What is read from a ballot file: the number of candidates and records, and that the ids keep their rule.
 use Rattle.std.proofs.Common.{◌≡◌, ℕ, zero, suc, ◌<◌, ◌≤◌, ◌+◌, ◌++◌, Bool, true, false, not, ◌||◌, nat_le, nat_lt, List, [], ◌∷◌, length, map, drop, inl, inr, Option, None, Some, Result, Ok, Err, if◌then◌else◌, refl, ap, subst, arith, leb-true, ltb-true, length-append, codes}
 use Rattle.std.specs.List.{list_all, list_any}
 use Rattle.std.proofs.lemmas.Bool.{and_parts}

@@ -1,4 +1,4 @@
--- How many sets suffice for a search, and where they don't.
+-- The number of sets that suffice for a search, and when they don't.
 use Rattle.std.proofs.Common.{◌≡◌, ℕ, zero, suc, ◌-◌, ◌^◌, ◌<◌, ◌≤◌, List, ap, arith}
 use Rattle.ballots.specs.Ballots.{BallotFile}
 use Rattle.assertions.specs.Hardness.{first_bound}

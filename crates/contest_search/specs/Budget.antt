@@ -1,4 +1,4 @@
--- How many nodes or sets a search needs, and when its budget is spent.
+-- The number of nodes or sets that a search needs, and when a search runs out of budget.
 use Rattle.std.specs.Prelude.{◌≡◌, ◌⊎◌, ◌≤◌, ◌<◌, ℕ, max, List, Option, None, Some, ⊤}
 use Rattle.budget.specs.declared.budget.Budget.{Budget}
 use Rattle.budget.specs.declared.budget.Budget.TheVariants.{Nodes, Sets}
@@ -13,7 +13,7 @@ use Rattle.contest_search.specs.Certificate.{low_of, margin_of, order_of}
 
 -- ---- the nodes that are needed
 
--- the order count of c, once there is the order
+-- the order count of c, if there is an order
 abbrev pub order_count_of : BallotFile → ℕ → Option (List ℕ) → ℕ → ℕ
 order_count_of ballots margin None c = 0
 order_count_of ballots margin (Some order) c =
@@ -25,7 +25,7 @@ certificate_nodes ballots winner c =
     max (cover_count (candidate_count ballots) (low_of ballots) (margin_of ballots winner) c)
     (order_count_of ballots (margin_of ballots winner) (order_of ballots winner) c)
 
--- the most nodes that a search may need for c, if this is the tabulated order
+-- the maximum number of nodes that a search may need for c, if this is the tabulated order
 abbrev pub nodes_for : BallotFile → List ℕ → ℕ → ℕ → ℕ
 nodes_for ballots tabulated winner c =
     max (work_for (candidate_count ballots) ballots.rankings tabulated c)
@@ -33,7 +33,7 @@ nodes_for ballots tabulated winner c =
 
 -- ---- the sets that are needed
 
--- for the certificate's claims or for its order, for all orders together
+-- the sets that the certificate needs for its claims or for its order, for all orders together
 abbrev pub sets_of : BallotFile → ℕ → ℕ
 sets_of ballots winner = sets_for (candidate_count ballots) ballots.rankings winner
 
@@ -44,7 +44,7 @@ IsInBudget ballots winner (Nodes nodes) =
     (c : ℕ) → IsOther ballots winner c → certificate_nodes ballots winner c ≤ nodes
 IsInBudget ballots winner (Sets sets) = sets_of ballots winner ≤ sets
 
--- by sets a contest that isn't decided is reported so if the budget is enough, or if the order that a search starts with has hardness 0
+-- a search by sets reports that a contest isn't decided if the budget is enough, or if the order that the search starts with has hardness 0
 pub record IsToldBySets (sets : ℕ) (ballots : BallotFile) : Type 0 where
   pub winner : ℕ
   pub won : IsWon ballots winner
@@ -55,14 +55,15 @@ abbrev pub IsTold : Budget → BallotFile → Type 0
 IsTold (Nodes nodes) ballots = ⊤
 IsTold (Sets sets) ballots = IsToldBySets sets ballots
 
--- ---- a budget that is spent
+-- ---- a search that runs out of budget
 
--- the race is spent at this candidate: the work of a piece whose orders elect it is above the nodes
+-- the race runs out of budget at this candidate: a piece whose orders elect the candidate takes more work than the budget has nodes
 pub record IsRaceSpent (nodes : ℕ) (ballots : BallotFile) (tabulated : List ℕ)
     (last : ℕ) : Type 0 where
   pub above : nodes < work_for (candidate_count ballots) ballots.rankings tabulated last
 
--- the certificate is spent at this candidate: of those who didn't win, the least for whom it needs more; the margin is the best then
+-- the certificate runs out of budget at this candidate, the lowest-numbered of those who didn't win for whom it needs more nodes; the margin
+-- is then the best one
 pub record IsCertificateSpent (nodes : ℕ) (ballots : BallotFile)
     (winner last margin : ℕ) : Type 0 where
   pub above : nodes < certificate_nodes ballots winner last
@@ -70,8 +71,8 @@ pub record IsCertificateSpent (nodes : ℕ) (ballots : BallotFile)
       certificate_nodes ballots winner c ≤ nodes
   pub best : margin ≡ margin_of ballots winner
 
--- a search is spent at this candidate, in the race or then in the certificate, with an order that elects another candidate than the
--- winner, no harder than the first that is tried, and not of hardness 0, which would show that the contest isn't decided
+-- a search runs out of budget at this candidate, in the race or afterwards in the certificate. It has an order that elects a candidate other
+-- than the winner and is no harder than the first order tried. The hardness isn't 0, which would show that the contest isn't decided
 pub record IsSpent (nodes : ℕ) (ballots : BallotFile) (last : ℕ) (order : List ℕ)
     (margin : ℕ) : Type 0 where
   pub winner : ℕ
@@ -84,7 +85,7 @@ pub record IsSpent (nodes : ℕ) (ballots : BallotFile) (last : ℕ) (order : Li
   pub within : margin ≤ first_bound (candidate_count ballots) ballots.rankings won.order
   pub some : 1 ≤ margin
 
--- more sets are needed than there are; with it comes the order that a search starts with, and its hardness, which isn't 0
+-- more sets are needed than the budget has; the search gives the order that it starts with and that order's hardness, which isn't 0
 pub record IsSpentBySets (sets : ℕ) (ballots : BallotFile) (order : List ℕ) (margin : ℕ)
     : Type 0 where
   pub winner : ℕ
@@ -94,7 +95,7 @@ pub record IsSpentBySets (sets : ℕ) (ballots : BallotFile) (order : List ℕ) 
   pub hardness : margin ≡ first_bound (candidate_count ballots) ballots.rankings won.order
   pub some : 1 ≤ margin
 
--- nodes are printed as nodes, and sets as sets
+-- a budget of nodes is printed as nodes, and a budget of sets as sets
 abbrev pub IsSpentIn : Budget → BallotFile → ℕ → List ℕ → ℕ → Type 0
 IsSpentIn (Nodes nodes) ballots last order margin = IsSpent nodes ballots last order margin
 IsSpentIn (Sets sets) ballots last order margin = ⊥

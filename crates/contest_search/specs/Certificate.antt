@@ -6,19 +6,19 @@ use Rattle.ballots.specs.Ballots.{BallotFile}
 use Rattle.assertion_file.specs.Content.{Content}
 use Rattle.contest_search.specs.Contest.{candidate_count, IsWon, IsElected}
 
--- over the records of the contest
+-- the hardness of an order over the records of the contest
 abbrev pub low_of : BallotFile → List ℕ → ℕ
 low_of ballots = low (candidate_count ballots) ballots.rankings
 
 abbrev pub margin_of : BallotFile → ℕ → ℕ
 margin_of ballots winner = best_margin (candidate_count ballots) winner (low_of ballots)
 
--- of the orders that elect another candidate, the one that is printed: no true assertion of larger margin refutes it
+-- among the orders that elect another candidate, the one that is printed; no true assertion with a larger margin refutes it
 abbrev pub order_of : BallotFile → ℕ → Option (List ℕ)
 order_of ballots winner =
     certificate_order (candidate_count ballots) winner (low_of ballots) (margin_of ballots winner)
 
--- what is said of the contest that this candidate has won, with that order
+-- the file for the contest that this candidate has won, with that order
 abbrev pub certificate_of : BallotFile → ℕ → List ℕ → Content
 certificate_of ballots winner order = record {
   contest = ballots.contest;

@@ -17,7 +17,7 @@ IsWon ballots winner = IsWinner (candidate_count ballots) ballots.rankings winne
 abbrev pub IsElected : BallotFile → ℕ → Type 0
 IsElected ballots winner = AllElect (candidate_count ballots) ballots.rankings winner
 
--- some ways of breaking its ties elect one candidate, and some another
+-- some ways of breaking the ties of the contest elect one candidate, and some elect another
 abbrev pub IsUndecided : BallotFile → Type 0
 IsUndecided ballots = IsDecided (candidate_count ballots) ballots.rankings → ⊥
 
@@ -28,7 +28,7 @@ pub record IsOther (ballots : BallotFile) (winner c : ℕ) : Type 0 where
 
 -- ---- a tie
 
--- the contest isn't decided; its first tie has this round, this set of those who share the least tally, and that tally
+-- the contest isn't decided; its first tie is in this round, among this set of candidates who share the smallest tally, with that tally
 pub record IsTie (ballots : BallotFile) (round tied votes : ℕ) : Type 0 where
   pub counted : 1 ≤ round
   pub first : IsFirstTie (candidate_count ballots) ballots.rankings round tied votes

@@ -14,12 +14,12 @@ use Rattle.contest_search.specs.Contest.{candidate_count, IsWon, IsElected, IsTi
 use Rattle.contest_search.specs.declared.found.Found.{Found}
 use Rattle.contest_search.specs.declared.found.Found.TheVariants.{Certificate as CertificateFound, Tie, Spent, SpentSets}
 
--- the sets that are needed: for the certificate's order, or those that all true NEBs of at least the best margin let stand
+-- the number of sets needed: those for the certificate's order, or those that all true NEBs with at least the best margin leave standing
 abbrev pub fewest_sets_of : BallotFile → ℕ → ℕ
 fewest_sets_of ballots winner = fewest_sets (candidate_count ballots) ballots.rankings winner
 
--- the contest is decided, and the file is its certificate but for the claims; these have the fewest NENs at the least margin that the gap
--- leaves
+-- the contest is decided, and the file is its certificate except for the claims; the claims have the fewest NENs at the smallest margin that
+-- the gap allows
 pub record IsFewestFoundIn (sets gap : ℕ) (ballots : BallotFile) (file : Content) : Type 0 where
   pub winner : ℕ
   pub won : IsWon ballots winner
@@ -31,7 +31,7 @@ pub record IsFewestFoundIn (sets gap : ℕ) (ballots : BallotFile) (file : Conte
       (least_margin gap (margin_of ballots winner)) file.claims
   pub within : fewest_sets_of ballots winner ≤ sets
 
--- more sets are needed than there are; with it comes the order that a search starts with, and its hardness, which isn't 0
+-- more sets are needed than the budget has; the search gives the order that it starts with and that order's hardness, which isn't 0
 pub record IsSpentFewest (sets : ℕ) (ballots : BallotFile) (order : List ℕ) (margin : ℕ) : Type 0 where
   pub winner : ℕ
   pub won : IsWon ballots winner
@@ -40,13 +40,13 @@ pub record IsSpentFewest (sets : ℕ) (ballots : BallotFile) (order : List ℕ) 
   pub hardness : margin ≡ first_bound (candidate_count ballots) ballots.rankings won.order
   pub some : 1 ≤ margin
 
--- the file as it is printed: its margin is the smallest of its claims, and it has the order only if that is the best margin
+-- the file as it is printed: its margin is the smallest margin of its claims, and it has the order only if that is the best margin
 abbrev pub with_own_margin : Content → Content
 with_own_margin file =
     let own = least (margins_of file) in
     record file { margin = own; order = if own == file.margin then file.order else None }
 
--- a contest that isn't decided is reported as by a search by sets
+-- a contest that isn't decided is reported as it is by a search by sets
 abbrev pub FoundFewestIn : ℕ → ℕ → BallotFile → Found → Type 0
 FoundFewestIn sets gap ballots (CertificateFound file) = IsFewestFoundIn sets gap ballots file
 FoundFewestIn sets gap ballots (Tie round tied votes) =

@@ -1,4 +1,4 @@
--- How many sets suffice for a search for the fewest NENs, and what the checker says of what it finds.
+-- The number of sets that suffice for a search for the fewest NENs, and what the checker says about what the search finds.
 use Rattle.std.specs.Prelude.{◌≡◌, ◌↔◌, ℕ, ◌<◌, ◌≤◌, ◌-◌, ◌^◌, List, Option, Ok}
 use Rattle.budget.specs.declared.budget.Budget.TheVariants.{Sets}
 use Rattle.irv_base.specs.Names.{Id}
@@ -16,20 +16,21 @@ use Rattle.contest_search.specs.Found.{IsSpentFound}
 use Rattle.contest_search.specs.declared.found.Found.{Found}
 use Rattle.contest_search.specs.Planned.{planned, CanBePlanned}
 
--- No search needs more sets than there are, less three.
+-- No search needs more sets than the number of all sets minus three.
 abbrev pub FewestSetsAreFew : Type 0
 FewestSetsAreFew =
     (ballots : BallotFile) (winner : ℕ) → IsWon ballots winner →
     fewest_sets_of ballots winner ≤ 2 ^ candidate_count ballots - 3
 
--- Of a contest that is decided, a search is spent exactly if more sets are needed than the budget has.
+-- If a contest is decided, a search runs out of budget exactly if it needs more sets than the budget has.
 abbrev pub SpentFewestExactly : Type 0
 SpentFewestExactly =
     (sets gap : ℕ) (ballots : BallotFile) (found : Found) (winner : ℕ) → IsWon ballots winner →
     IsElected ballots winner → FoundFewestIn sets gap ballots found →
     (IsSpentFound found ↔ (sets < fewest_sets_of ballots winner))
 
--- What is printed of ballots that were read holds of them, reads back from its text, and is accepted by the checker with the same budget.
+-- What is printed for ballots that were read holds for them, can be read back from its text, and is accepted by the checker with the same
+-- budget.
 abbrev pub FewestIsAccepted : Type 0
 FewestIsAccepted =
     (sets gap : ℕ) (bytes : List ℕ) (asked : Option Id) (ballots : BallotFile) (file : Content) →
@@ -39,7 +40,7 @@ FewestIsAccepted =
     × (assertion_file_of (assertion_file_text own) ≡ Ok own)
     × IsAnswer (Sets sets) ballots own (Ok Accepted)
 
--- So is it with the draws of a clean audit.
+-- The same holds with the draws of a clean audit.
 abbrev pub PlannedFewestIsAccepted : Type 0
 PlannedFewestIsAccepted =
     (cards gamma limit sets gap : ℕ) (bytes : List ℕ) (asked : Option Id) (ballots : BallotFile)
@@ -51,7 +52,7 @@ PlannedFewestIsAccepted =
     × (assertion_file_of (assertion_file_text planned) ≡ Ok planned)
     × IsAnswer (Sets sets) ballots planned (Ok Accepted)
 
--- Without a gap the file is printed as it is found: with the best margin and the order of the certificate.
+-- Without a gap, the file is printed as it is found, with the best margin and the order of the certificate.
 abbrev pub NoGapIsBest : Type 0
 NoGapIsBest =
     (sets : ℕ) (bytes : List ℕ) (asked : Option Id) (ballots : BallotFile) (file : Content) →

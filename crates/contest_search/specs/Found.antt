@@ -29,7 +29,7 @@ FoundIn budget ballots (Spent last order margin) = IsSpentIn budget ballots last
 FoundIn budget ballots (SpentSets sets order margin) =
     IsSpentBySetsIn budget ballots sets order margin
 
--- the budget is spent
+-- the search ran out of budget
 abbrev pub IsSpentFound : Found → Type 0
 IsSpentFound (CertificateFound file) = ⊥
 IsSpentFound (Tie round tied votes) = ⊥
@@ -45,12 +45,12 @@ pub record IsCounted (ballots : BallotFile) (bag : Kept) (t : Tabulated) : Type 
   pub records : IsOf bag ballots.rankings
   pub tabulated : (records : List (List ℕ)) → IsOf bag records → IsTabulation bag.n records t
 
--- the race over them ended so
+-- the race over the counted ballots ended this way
 abbrev pub IsBestOf : Kept → Tabulated → RaceEnd → Type 0
 IsBestOf bag t end =
     (records : List (List ℕ)) → IsOf bag records → IsBest bag.n records t.winner end
 
--- what a certificate says of the ballots
+-- what a certificate says about the ballots
 abbrev pub content_of : BallotFile → ℕ → Certificate → Content
 content_of ballots winner certificate = record {
   contest = ballots.contest;
@@ -63,7 +63,7 @@ content_of ballots winner certificate = record {
   plan = None;
 }
 
--- it has what an assertion file of them keeps
+-- the certificate satisfies what an assertion file for the ballots must satisfy
 pub record IsPrintable (ballots : BallotFile) (winner : ℕ)
     (certificate : Certificate) : Type 0 where
   pub some_records : 1 ≤ length ballots.rankings

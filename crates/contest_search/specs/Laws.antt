@@ -1,4 +1,5 @@
--- How many nodes or sets suffice for a search, and what the checker says of what it finds, with the draws of a clean audit or without.
+-- The number of nodes or sets that suffice for a search, and what the checker says about what the search finds, with or without the draws of
+-- a clean audit.
 use Rattle.std.specs.Prelude.{◌≡◌, ◌↔◌, ℕ, ◌<◌, ◌≤◌, ◌-◌, ◌*◌, ◌^◌, List, Option, Ok}
 use Rattle.budget.specs.declared.budget.Budget.{Budget}
 use Rattle.budget.specs.declared.budget.Budget.TheVariants.{Sets}
@@ -25,13 +26,14 @@ NodesAreFew =
     (ballots : BallotFile) (tabulated : List ℕ) (winner c : ℕ) → IsOther ballots winner c →
     nodes_for ballots tabulated winner c ≤ 2 * factorial (candidate_count ballots - 1)
 
--- No search needs more sets than there are, less three.
+-- No search needs more sets than the number of all sets minus three.
 abbrev pub SetsAreFew : Type 0
 SetsAreFew =
     (ballots : BallotFile) (winner : ℕ) → IsWon ballots winner →
     sets_of ballots winner ≤ 2 ^ candidate_count ballots - 3
 
--- A search by sets is spent exactly if more sets are needed than the budget has, and the order that it starts with isn't of hardness 0.
+-- A search by sets runs out of budget exactly if it needs more sets than the budget has and the order that it starts with doesn't have
+-- hardness 0.
 abbrev pub SpentBySetsExactly : Type 0
 SpentBySetsExactly =
     (sets : ℕ) (ballots : BallotFile) (found : Found) (winner : ℕ) (won : IsWon ballots winner) →
@@ -40,8 +42,8 @@ SpentBySetsExactly =
     ↔ ((1 ≤ first_bound (candidate_count ballots) ballots.rankings won.order)
     × (sets < sets_of ballots winner)))
 
--- What is found in ballots that were read is their canonical certificate, reads back from its text, and is accepted by the checker with
--- the same budget.
+-- What is found in ballots that were read is their canonical certificate, can be read back from its text, and is accepted by the checker
+-- with the same budget.
 abbrev pub FoundIsAccepted : Type 0
 FoundIsAccepted =
     (budget : Budget) (bytes : List ℕ) (asked : Option Id) (ballots : BallotFile) (file : Content) →
@@ -50,7 +52,7 @@ FoundIsAccepted =
     × (assertion_file_of (assertion_file_text file) ≡ Ok file)
     × IsAnswer budget ballots file (Ok Accepted)
 
--- So is it with the draws of a clean audit.
+-- The same holds with the draws of a clean audit.
 abbrev pub PlannedIsAccepted : Type 0
 PlannedIsAccepted =
     (cards gamma limit : ℕ) (budget : Budget) (bytes : List ℕ) (asked : Option Id) (ballots : BallotFile)

@@ -4,7 +4,7 @@ use Rattle.irv_base.specs.declared.limits.TheConstants.{GREATEST_GAMMA, GREATEST
 use Rattle.assertion_file.specs.Content.{Content, Plan, margins_of}
 use Rattle.km_risk.specs.Clean.{clean_draws}
 
--- for claims of these margins, over this many cards, with gamma in thousandths and the risk limit in millionths
+-- the plan for claims with these margins, over this many cards, with gamma in thousandths and the risk limit in millionths
 abbrev pub plan_over : ℕ → ℕ → ℕ → List ℕ → Plan
 plan_over cards gamma limit margins = record {
   cards = cards;
@@ -13,7 +13,7 @@ plan_over cards gamma limit margins = record {
   draws = map (λ margin. clean_draws cards margin gamma limit) margins;
 }
 
--- for the claims of a file
+-- the plan for the claims of a file
 abbrev pub plan_of : ℕ → ℕ → ℕ → Content → Plan
 plan_of cards gamma limit file =
     plan_over cards gamma limit (margins_of file)
@@ -21,7 +21,7 @@ plan_of cards gamma limit file =
 abbrev pub planned : ℕ → ℕ → ℕ → Content → Content
 planned cards gamma limit file = record file { plan = Some (plan_of cards gamma limit file) }
 
--- a contest of this many records can be planned for
+-- a clean audit can be planned for a contest with this many records
 pub record CanBePlanned (cards gamma limit records : ℕ) : Type 0 where
   pub some_cards : records ≤ cards
   pub most_cards : cards ≤ MOST_CARDS

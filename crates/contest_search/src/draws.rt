@@ -9,7 +9,7 @@ use irv_base::Memory;
 use km_risk::clean_draws;
 use std::alloc::Global;
 
-// How many draws confirm each assertion, if no card shows a discrepancy.
+// The number of draws that confirm each assertion if no card shows a discrepancy.
 fn draws_of(
     alloc: Global,
     file: &AssertionFile,
@@ -31,8 +31,8 @@ fn draws_of(
     Ok(draws)
 }
 
-/// The file with the draws that confirm each of its assertions if no card shows a discrepancy: over a manifest of this many cards, with
-/// gamma in thousandths and the risk limit in millionths.
+/// Adds to the file the number of draws that confirm each of its assertions if no card shows a discrepancy, over a manifest of this many
+/// cards, with gamma in thousandths and the risk limit in millionths.
 pub fn planned(
     alloc: Global,
     file: AssertionFile,

@@ -17,7 +17,7 @@ use set_tallies::Counted;
 use std::alloc::Global;
 use std::thread::Threads;
 
-// What it finds in a contest that was tabulated.
+// What the search finds in a contest that was tabulated.
 fn fewest_of(
     alloc: Global,
     votes: &Votes,
@@ -58,10 +58,10 @@ fn fewest_of(
     }
 }
 
-/// What a search for the fewest NENs of the contest finds, within a budget of sets. The margins may be less than the best one by `gap`
-/// thousandths of it, rounded up. Up to this many workers sum the ballots.
+/// Searches for the fewest NENs of the contest, within a budget of sets. The margins may be smaller than the best one by `gap` thousandths of
+/// it, rounded up. Up to this many workers sum the ballots.
 ///
-/// The file has the best margin and the order of the certificate, whatever its claims. `with_own_margin` makes it what is printed.
+/// The file has the best margin and the order of the certificate, whatever its claims are. `with_own_margin` turns it into what is printed.
 pub fn find_fewest<R: AllocGlobal + Threads + Sync>(
     rt: &R,
     votes: &Votes,
@@ -81,7 +81,7 @@ pub fn find_fewest<R: AllocGlobal + Threads + Sync>(
     }
 }
 
-/// The file with the smallest margin of its claims. If that is another margin than the file's, it has no order.
+/// Gives the file the smallest margin of its claims. If that differs from the margin that the file had, the result has no order.
 pub fn with_own_margin(alloc: Global, file: AssertionFile) -> Result<AssertionFile, Memory>
     requires claims { 1 ≤ length file.claims }
     requires unplanned { file.plan ≡ None }

@@ -28,21 +28,21 @@ use std::thread::Threads;
 pub enum Found {
     /// The assertions that confirm the winner.
     Certificate(AssertionFile),
-    /// The contest isn't decided: in this round, from 1, the candidates in the set share the least tally, in votes.
+    /// The contest isn't decided: in this round, counted from 1, the candidates in the set share the smallest tally, in votes.
     Tie {
         round: u32,
         tied: CandSet,
         votes: u32,
     },
-    /// More nodes than the budget has are needed for the orders that elect `last`. With it comes an order that elects another candidate
-    /// than the winner, no harder than the one that a search starts with, and its hardness.
+    /// The orders that elect `last` need more nodes than the budget has. The variant also has an order that elects a candidate other than the
+    /// winner and is no harder than the one that a search starts with, and the hardness of that order.
     Spent {
         last: Candidate,
         order: Order,
         margin: u32,
     },
-    /// More sets of candidates are needed than the budget has, which is this many. With it comes the order that a search starts with, and
-    /// its hardness.
+    /// More sets of candidates are needed than the budget has, which is this many. The variant also has the order that a search starts with, and
+    /// the hardness of that order.
     SpentSets {
         sets: u32,
         order: Order,
@@ -50,8 +50,8 @@ pub enum Found {
     },
 }
 
-/// What a search of the contest finds, by up to this many workers, within a budget: of nodes for each piece of the race and for each
-/// candidate who didn't win, or of sets for all orders together.
+/// Searches the contest with up to this many workers, within a budget. The budget is in nodes for each piece of the race and for each
+/// candidate who didn't win, or in sets for all orders together.
 pub fn find<R: AllocGlobal + Threads + Sync, G: Gate + Sync>(
     rt: &R,
     votes: &Votes,
@@ -71,7 +71,7 @@ pub fn find<R: AllocGlobal + Threads + Sync, G: Gate + Sync>(
     }
 }
 
-// What a search of a contest that was tabulated finds, by the budget.
+// What a search of a contest that was tabulated finds, by the kind of budget.
 fn search_of<R: AllocGlobal + Threads + Sync, G: Gate + Sync>(
     rt: &R,
     votes: &Votes,
@@ -91,7 +91,7 @@ fn search_of<R: AllocGlobal + Threads + Sync, G: Gate + Sync>(
     }
 }
 
-// What it finds by sets.
+// What the search finds by sets.
 fn sets_of(
     alloc: Global,
     votes: &Votes,
@@ -121,9 +121,9 @@ fn sets_of(
     }
 }
 
-// How many of the workers race for the margin of a contest of this many candidates. Up to `ALWAYS_SUMMED` candidates all do, since they
-// read one table. With more, each would count the rows that it asks for, and go on to the end of its piece once another one is out of
-// budget.
+// The number of workers that race for the margin of a contest with this many candidates. With up to `ALWAYS_SUMMED` candidates all of them
+// do, since they read one table. With more candidates, each worker would count the rows that it asks for, and continue to the end of its
+// piece once another worker is out of budget.
 fn racers(candidates: usize, workers: u32) -> u32
     ensures table { candidates ≤ ALWAYS_SUMMED → result ≡ workers }
     ensures rows { ALWAYS_SUMMED < candidates → result ≡ 1 }
@@ -135,7 +135,7 @@ fn racers(candidates: usize, workers: u32) -> u32
     }
 }
 
-// What it finds by the race, and by walks through suffixes.
+// What the search finds by the race, and by walks through suffixes.
 fn race_of<R: AllocGlobal + Threads + Sync, G: Gate + Sync>(
     rt: &R,
     votes: &Votes,
@@ -169,7 +169,7 @@ fn race_of<R: AllocGlobal + Threads + Sync, G: Gate + Sync>(
     }
 }
 
-/// The first tie of a contest that isn't decided. It has one.
+/// Returns the first tie of a contest that isn't decided. A contest like this always has one.
 pub(crate) fn tie_of(votes: &Votes, tabulated: &Tabulated) -> Found
     requires tabulation { IsTabulation (candidate_count votes.now) (votes.now).rankings
         tabulated.now }
@@ -188,7 +188,7 @@ pub(crate) fn tie_of(votes: &Votes, tabulated: &Tabulated) -> Found
     }
 }
 
-// The records with the sums over all sets that a race made, if it made some.
+// The records with the sums over all sets that a race made, if it made any.
 fn with_sums<'c>(counted: &'c Counted, summed: &'c Option<Counted>) -> &'c Counted
     requires { IfSome summed.now (λ own. own.bag ≡ counted.now.bag) }
     ensures { result.now.bag ≡ counted.now.bag }
@@ -199,7 +199,7 @@ fn with_sums<'c>(counted: &'c Counted, summed: &'c Option<Counted>) -> &'c Count
     }
 }
 
-// The certificate of the best margin. It reads its rows from sums that the race made.
+// Makes the certificate of the best margin. It reads its rows from sums that the race made.
 fn certificate_of<R: AllocGlobal + Threads + Sync>(
     rt: &R,
     votes: &Votes,

@@ -7,48 +7,48 @@ pub fn nodes_are_few()
     ensures { NodesAreFew }
 {}
 
-/// No search needs more sets than there are, less three.
+/// No search needs more sets than the number of all sets minus three.
 pub fn sets_are_few()
     ensures { SetsAreFew }
 {}
 
-/// A search by sets is spent exactly if more of them are needed than the budget has, and the order that it starts with isn't of hardness
-/// 0.
+/// A search by sets runs out of budget exactly if it needs more sets than the budget has and the order that it starts with doesn't have
+/// hardness 0.
 pub fn spent_by_sets_exactly()
     ensures { SpentBySetsExactly }
 {}
 
-/// What a search finds is the canonical certificate, reads back from its text, and is accepted by the checker.
+/// What a search finds is the canonical certificate, can be read back from its text, and is accepted by the checker.
 pub fn found_is_accepted()
     ensures { FoundIsAccepted }
 {}
 
-/// So is it with the draws of a clean audit.
+/// The same holds with the draws of a clean audit.
 pub fn planned_is_accepted()
     ensures { PlannedIsAccepted }
 {}
 
-/// No search for the fewest NENs needs more sets than there are, less three.
+/// No search for the fewest NENs needs more sets than the number of all sets minus three.
 pub fn fewest_sets_are_few()
     ensures { FewestSetsAreFew }
 {}
 
-/// If the contest is decided, it is spent exactly if more of them are needed than the budget has.
+/// If the contest is decided, a search for the fewest NENs runs out of budget exactly if it needs more sets than the budget has.
 pub fn spent_fewest_exactly()
     ensures { SpentFewestExactly }
 {}
 
-/// What is printed of it holds of the ballots, reads back from its text, and is accepted by the checker.
+/// What is printed for a search for the fewest NENs holds for the ballots, can be read back from its text, and is accepted by the checker.
 pub fn fewest_is_accepted()
     ensures { FewestIsAccepted }
 {}
 
-/// So is it with the draws of a clean audit.
+/// The same holds with the draws of a clean audit.
 pub fn planned_fewest_is_accepted()
     ensures { PlannedFewestIsAccepted }
 {}
 
-/// Without a gap that is what is found: it has the best margin, and the order of the certificate.
+/// Without a gap, what is printed is what is found. It has the best margin and the order of the certificate.
 pub fn no_gap_is_best()
     ensures { NoGapIsBest }
 {}

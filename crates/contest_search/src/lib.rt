@@ -1,4 +1,4 @@
-//! The search of a contest: its tabulation, the race for the best margin, and the certificate of that margin, as values without texts.
+//! The search of a contest: its tabulation, the race for the best margin, and the certificate of that margin, as values rather than texts.
 #![tactic(auto)]
 
 mod draws;

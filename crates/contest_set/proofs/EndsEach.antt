@@ -1,4 +1,4 @@
--- A contest ends by itself, and in one way, but for its budget.
+-- A contest ends by itself, and in one way, unless its budget runs out.
 use Rattle.std.proofs.Common.{◌≡◌, ◌∙◌, ℕ, zero, suc, ◌∷◌, [], List, sym, ap, subst}
 use Rattle.irv_base.proofs.Ties.{first_tie_is_one}
 use Rattle.ballots.specs.Ballots.{BallotFile}

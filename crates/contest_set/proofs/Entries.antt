@@ -1,4 +1,4 @@
--- What is seen for each contest, after one entry more.
+-- What is seen for each contest, after one more entry.
 use Rattle.std.proofs.Common.{◌≡◌, ◌∙◌, ℕ, zero, suc, ◌+◌, ◌++◌, ◌∷◌, [], true, false, List, Some, Ok, map, set, refl, sym, ap, replicate, length}
 use Rattle.std.specs.Prelude.{if◌then◌else◌, filter}
 use Rattle.std.specs.List.{slice_get}
@@ -76,7 +76,7 @@ seen-at (b ∷ list) (suc k) ballots entries g = seen-at list k ballots entries 
 
 -- ---- the records so far
 
--- these entries were read, and the records from number at on are left
+-- these entries were read, and the records from number at are left
 pub record SeenSoFar (batches : Batches) (list : List BallotFile) (rows : List Fields) (seen : List (List Entry)) (at : ℕ) (left : List Fields) : Type 0 where
   pub entries : List ContestEntry
   pub are : seen ≡ seen_for_each list entries

@@ -1,4 +1,4 @@
--- The ends of contests, one after the other.
+-- The ends of contests, in order.
 use Rattle.std.proofs.Common.{◌≡◌, ◌∙◌, ℕ, zero, suc, ◌<◌, ◌++◌, ◌∷◌, [], List, Option, Some, None, Result, take, length, length-append, refl, sym, ap, subst, arith}
 use Rattle.std.proofs.Math.Seq.{get_or-append_seam}
 use Rattle.std.specs.Option.{option_or}
@@ -17,7 +17,7 @@ use Rattle.contest_set.specs.declared.fault.SetFault.{SetFault}
 use Rattle.contest_set.specs.declared.fault.SetFault.TheVariants.{NoCard, NoRecord, Memory}
 use Rattle.contest_set.specs.declared.terms.SharedTerms.{SharedTerms}
 
--- where each ballot has a card, each of this contest has one
+-- if each ballot has a card, each ballot of this contest has one
 pub each-linked : (batches : Batches) (list : List BallotFile) (k : ℕ) (ballots : BallotFile) → first_without_card_of_all batches list ≡ None →
     slice_get list k ≡ Some ballots → first_without_card batches ballots ≡ None
 each-linked batches [] k ballots h g = absurd cc
@@ -44,7 +44,7 @@ result-at batches terms list seen results before rest one whole h =
     subst (HasResult batches terms list seen (length before)) (get_or-append_seam before one rest one)
     (all (length before) one (omega (arith, length-append before (one ∷ rest))))
 
--- a fault behind the ends of the contests before
+-- a fault after the ends of the earlier contests
 pub join-fault : (batches : Batches) (terms : SharedTerms) (list : List BallotFile) (seen : List (List Entry)) (ends : List ContestEnd) (place : ℕ)
     (ballots : BallotFile) (entries : List Entry) (fault : SetFault) → slice_get list place ≡ Some ballots → slice_get seen place ≡ Some entries →
     AreEnds batches terms (take place list) (take place seen) ends → IsOneFault batches terms ballots entries place fault →
@@ -69,14 +69,14 @@ both-at list seen place within same =
     let (entries, of) = got seen place (omega (arith, within, same)) in
     (ballots, entries, there, of)
 
--- where each ballot has a card
+-- if each ballot has a card
 pub set-fault : (batches : Batches) (terms : SharedTerms) (list : List BallotFile) (seen : List (List Entry)) (fault : SetFault) →
     first_without_card_of_all batches list ≡ None → IsJoinFault batches terms list seen fault → IsSetFault batches terms list seen fault
 set-fault batches terms list seen (NoCard at) none is = absurd is
 set-fault batches terms list seen (NoRecord contest card k) none is = (none, is)
 set-fault batches terms list seen Memory none is = tt
 
--- one end more
+-- one more end
 pub ends-more : (batches : Batches) (terms : SharedTerms) (k : ℕ) (list : List BallotFile) (seen : List (List Entry)) (ends : List ContestEnd)
     (ballots : BallotFile) (entries : List Entry) (end : ContestEnd) →
     AreEnds batches terms (take k list) (take k seen) ends → slice_get list k ≡ Some ballots → slice_get seen k ≡ Some entries →

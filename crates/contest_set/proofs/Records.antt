@@ -1,4 +1,4 @@
--- What a record tells, by its parts.
+-- What a record says, by its parts.
 use Rattle.std.proofs.Common.{◌≡◌, ◌∙◌, ℕ, ◌∷◌, drop, List, Some, None, Ok, Err, Result, sym, ap}
 use Rattle.std.specs.List.{slice_get}
 use Rattle.csv_rows.specs.Rows.{Fields}
@@ -30,7 +30,7 @@ pub not-named : (batches : Batches) (list : List BallotFile) (entries : List Con
 not-named batches list entries row id contest word rest card is none =
     behind-card batches list entries row id contest word rest card is ∙ ap (entry_for entries word rest card) none
 
--- of a contest at a place, for which this was seen so far
+-- a record of a contest at a place, for which this was seen so far
 pub is-told : (batches : Batches) (list : List BallotFile) (entries : List ContestEntry) (row : Fields) (id contest word : Id) (rest : Fields) (card : ℕ) →
     IsPlaced batches row id contest word rest card → (place : ℕ) (ballots : BallotFile) (stood : List Entry) → ballots_for list contest ≡ slice_get list place →
     slice_get list place ≡ Some ballots → slice_get (seen_for_each list entries) place ≡ Some stood → (names : List Id) → names ≡ ballots.candidates →

@@ -1,4 +1,4 @@
--- The risk limit of each contest by itself.
+-- Each contest has its own risk limit.
 use Rattle.std.proofs.Common.{◌≡◌, ◌∙◌, ℕ, suc, ◌≤◌, ◌+◌, ◌*◌, ◌&&◌, ◌||◌, true, Bool, false, ◌∷◌, [], List, length, map, nat_le, refl, sym, ap, arith}
 use Rattle.std.specs.List.{list_all, range_with_len, slice_get}
 use Rattle.std.proofs.lemmas.Bool.{and_parts}
@@ -26,7 +26,7 @@ use Rattle.contest_set.specs.Laws.{EachRiskLimit, EndIsCounted}
 
 -- ---- a round that confirms each claim
 
--- risks within the limit are so at each place
+-- risks within the limit are within it at each place
 at-place : (limit : ℕ) (risks : List ℕ) (from : ℕ) (found : ℕ → Bool) →
     ((i : ℕ) → found (from + i) ≡ is_at_most limit (slice_get risks i)) → are_confirmed limit risks ≡ true →
     list_all found (range_with_len from (length risks)) ≡ true

@@ -1,5 +1,5 @@
--- How the audit of a contest ends, by its own ballots and by what is seen of the cards for it: what a search finds, and then one round of
--- the draws that all contests share.
+-- How the audit of a contest ends, by its own ballots and by what is seen of the cards for it. A search finds something, and then there is
+-- one round of the draws that all contests share.
 use Rattle.std.specs.Prelude.{◌≡◌, ◌≤◌, ◌*◌, ℕ, nat_le, Bool, List, zip, length, None}
 use Rattle.std.specs.List.{AllZip, list_all}
 use Rattle.irv_base.specs.declared.limits.TheConstants.{GREATEST_GAMMA, GREATEST_LIMIT, MOST_DRAWS, MOST_WORKERS}
@@ -42,7 +42,7 @@ are_confirmed limit risks = list_all (λ risk. nat_le risk (limit * MILLIONTH)) 
 abbrev pub Finds : SharedTerms → BallotFile → Found → Type 0
 Finds terms ballots found = FoundIn (Nodes terms.nodes) ballots found
 
--- the round of all draws over the claims of a file, if this is recorded of the cards, and this is seen
+-- the round of all draws over the claims of a file, if this is recorded and this is seen of the cards
 abbrev pub round_over : SharedTerms → List Recorded → List Entry → Content → Round
 round_over terms recorded seen file =
     let cards : ℕ = length recorded in
@@ -60,7 +60,7 @@ module _ (batches : Batches) (terms : SharedTerms) where
     pub risks_are : risks ≡ (round_over terms (linked_of batches ballots) seen file).risks
     pub signed_off : signed ≡ are_confirmed terms.limit risks
 
-  -- the audit of one contest ends so
+  -- the audit of one contest ends this way
   abbrev pub EndsAs : BallotFile → List Entry → ContestEnd → Type 0
   EndsAs ballots seen (Tied round tied tally) = Finds terms ballots (FoundTie round tied tally)
   EndsAs ballots seen (Spent last order margin) =
@@ -68,6 +68,6 @@ module _ (batches : Batches) (terms : SharedTerms) where
   EndsAs ballots seen (Audited file counts risks signed) =
       IsAudited ballots seen file counts.items risks.items signed
 
-  -- each contest ends so, by what is seen for it
+  -- each contest ends this way, by what is seen for it
   abbrev pub AreEnds : List BallotFile → List (List Entry) → List ContestEnd → Type 0
   AreEnds list seen ends = AllZip (λ one end. EndsAs one.0 one.1 end) (zip list seen) ends

@@ -1,4 +1,4 @@
--- What holds of several contests: each is read, and ends, by its own ballots and by what is seen for it alone, and has its risk limit.
+-- The laws of several contests: each is read, and ends, only by its own ballots and by what is seen for it, and has its risk limit.
 use Rattle.std.specs.Prelude.{◌≡◌, ◌≤◌, ◌*◌, ◌^◌, ℕ, Bool, true, false, List, [], ◌∷◌, filter, length, map, slice_get, Some, None, Ok, Option, IsSomeAnd, IsTrue, ⊤}
 use Rattle.csv_rows.specs.Rows.{Fields}
 use Rattle.irv_base.specs.Names.{Id, is_same, all_differ}
@@ -40,7 +40,7 @@ without_contest (id ∷ of ∷ rest) = id ∷ rest
 abbrev pub records_about : Id → List Fields → List Fields
 records_about contest rows = filter (is_about contest) rows
 
--- for each contest there is seen what its own records say, without the contest's id
+-- what is seen for each contest is what its own records say, without the contest's id
 abbrev pub SeenIsEach : Type 0
 SeenIsEach =
     (batches : Batches) (list : List BallotFile) (rows : List Fields) (each : List (List Entry)) →
@@ -49,7 +49,7 @@ SeenIsEach =
     (map without_contest (records_about ballots.contest rows))) list
     ≡ map Ok each
 
--- without the records of all other contests, and without these contests, the same is seen for it
+-- the same is seen for a contest without the other contests and their records
 abbrev pub SeenAlone : Type 0
 SeenAlone =
     (batches : Batches) (list : List BallotFile) (rows : List Fields) (each : List (List Entry))
@@ -60,7 +60,7 @@ SeenAlone =
 
 -- ---- how a contest ends
 
--- it ends among the others as it does if it is audited alone, by any number of workers
+-- a contest ends among the others as it does if it is audited alone, by any number of workers
 abbrev pub EndsAlone : Type 0
 EndsAlone =
     (batches : Batches) (terms : SharedTerms) (workers : ℕ) (list : List BallotFile)
@@ -72,7 +72,7 @@ EndsAlone =
     (λ end. AreEnds batches (record terms { workers = workers }) (ballots ∷ []) (entries ∷ [])
     (end ∷ []))
 
--- the same, but for a budget that is spent
+-- the same end, unless a budget runs out
 abbrev pub AreSame : ContestEnd → ContestEnd → Type 0
 AreSame (Spent last order margin) other = ⊤
 AreSame (Tied round tied tally) (Spent last order margin) = ⊤
@@ -85,7 +85,7 @@ AreSame (Audited file counts risks signed) (Audited file' counts' risks' signed'
     (file ≡ file') × (counts.items ≡ counts'.items) × (risks.items ≡ risks'.items)
     × (signed ≡ signed')
 
--- a contest has one end, but for its budget
+-- a contest has one end, unless its budget runs out
 abbrev pub OneEnd : Type 0
 OneEnd =
     (batches : Batches) (terms : SharedTerms) (ballots : BallotFile) (seen : List Entry)
@@ -95,7 +95,7 @@ OneEnd =
 
 -- ---- the risk limit of each contest by itself
 
--- a contest that is signed off is counted, at any number of draws up to the most, if what is seen for it of the drawn cards is true of
+-- a contest that is signed off is counted, at any number of draws up to the maximum, if what is seen of the drawn cards for it is true of
 -- their actual rankings
 abbrev pub EndIsCounted : Type 0
 EndIsCounted =
@@ -110,8 +110,8 @@ EndIsCounted =
     × MayBeSignedOff terms.limit terms.gamma (audited file) (linked_of batches ballots) actual
     (drawn most)
 
--- of all sequences of n cards, those are at most limit millionths on which the audit of a contest that was read may be signed off, if the
--- actual rankings of the cards may elect another candidate
+-- if the actual rankings of the cards may elect another candidate, then the audit of a contest that was read may be signed off on at most
+-- limit millionths of all sequences of n cards
 abbrev pub EachRiskLimit : Type 0
 EachRiskLimit =
     (terms : SharedTerms) (n : ℕ) (bytes : List ℕ) (asked : Option Id) (batches : Batches)

@@ -29,7 +29,7 @@ abbrev pub as_set_fault : LinkFault → SetFault
 as_set_fault (NoCardOf at) = NoCard at
 as_set_fault MemoryOf = Memory
 
--- a ballot has no card, or memory is wanting
+-- a ballot has no card, or memory runs out
 abbrev pub LacksCard : Option ℕ → SetFault → Type 0
 LacksCard first (NoCard at) = first ≡ Some at
 LacksCard first (NoRecord contest card k) = ⊥
@@ -39,7 +39,7 @@ LacksCard first Memory = ⊤
 
 module _ (batches : Batches) (terms : SharedTerms) (ballots : BallotFile)
     (seen : List Entry) where
-  -- the contest has a winner, and this is the card of the first draw without a record, and the draw
+  -- the contest has a winner, and these are the first draw without a record and its card
   pub record LacksRecord (card k : ℕ) : Type 0 where
     pub file : Content
     pub found : Finds terms ballots (Certificate file)
@@ -70,14 +70,14 @@ module _ (batches : Batches) (terms : SharedTerms) (list : List BallotFile)
     pub earlier : List ContestEnd
     pub ends : AreEnds batches terms (take contest list) (take contest seen) earlier
 
-  -- the contests aren't audited for this reason; memory may always be wanting
+  -- the contests aren't audited for this reason; memory may always run out
   abbrev pub IsSetFault : SetFault → Type 0
   IsSetFault (NoCard at) = first_without_card_of_all batches list ≡ Some at
   IsSetFault (NoRecord contest card k) =
       (first_without_card_of_all batches list ≡ None) × FirstLacksRecord contest card k
   IsSetFault Memory = ⊤
 
-  -- ---- on the way, where each ballot has a card
+  -- ---- on the way, if each ballot has a card
 
   -- for the contest at this place
   abbrev pub HasResult : ℕ → Result ContestEnd SetFault → Type 0
@@ -90,7 +90,7 @@ module _ (batches : Batches) (terms : SharedTerms) (list : List BallotFile)
       (i : ℕ) (d : Result ContestEnd SetFault) → i < length results →
       HasResult i (slice_index_or results i d)
 
-  -- so that none lacks a card
+  -- if no ballot lacks a card
   abbrev pub IsJoinFault : SetFault → Type 0
   IsJoinFault (NoCard at) = ⊥
   IsJoinFault (NoRecord contest card k) = FirstLacksRecord contest card k

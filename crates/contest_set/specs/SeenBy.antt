@@ -1,4 +1,4 @@
--- What a seen file of several contests says, or which rule it breaks first, and in which record. A record has the id of a card, that of a
+-- What a seen file of several contests says, or which rule it breaks first, and in which record. A record has the id of a card, the id of a
 -- contest, and then what a record of a seen file of one contest has after its card.
 use Rattle.std.specs.Prelude.{ℕ, List, [], ◌∷◌, find, filter, map, Option, Some, None, Result, Ok, Err}
 use Rattle.csv_rows.specs.Fields.{numbered_records}
@@ -40,7 +40,7 @@ abbrev pub for_contest : Id → Result Entry VRule → Result ContestEntry VRule
 for_contest contest (Ok entry) = Ok (record { contest = contest; entry = entry })
 for_contest contest (Err rule) = Err rule
 
--- after these entries; those of other contests don't matter
+-- the entry of a record after these entries; those of other contests don't matter
 abbrev pub entry_for : List ContestEntry → Id → Fields → ℕ → Option BallotFile →
     Result ContestEntry VRule
 entry_for earlier word rest card None = Err V6

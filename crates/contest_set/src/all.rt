@@ -21,7 +21,7 @@ use std::alloc::Global;
 use std::thread;
 use std::thread::Threads;
 
-// Sees that each ballot of each contest has a card.
+// Checks that each ballot of each contest has a card.
 fn see_cards(alloc: Global, m: &Manifest, list: &[Ballots]) -> Result<(), SetFault>
     ensures linked { OnOk result (first_without_card_of_all m.now list.now ≡ None) }
     ensures refused { IfErr result (LacksCard (first_without_card_of_all m.now list.now)) }
@@ -34,7 +34,7 @@ fn see_cards(alloc: Global, m: &Manifest, list: &[Ballots]) -> Result<(), SetFau
     Ok(())
 }
 
-// A place for the end of each of this many contests. It holds an `Err` before the contest is looked at.
+// Returns a place for the end of each of this many contests. A place holds an `Err` until its contest is looked at.
 fn places(alloc: Global, contests: usize) -> Result<Vec<Result<ContestEnd, SetFault>>, Memory>
     ensures { IfOk result (λ places. length places.items ≡ contests) }
 {
@@ -45,7 +45,7 @@ fn places(alloc: Global, contests: usize) -> Result<Vec<Result<ContestEnd, SetFa
     Ok(places)
 }
 
-// How the audit of the contest at a place ends.
+// Audits the contest at a place, and returns how that ends.
 fn end_at<R: AllocGlobal + Threads + Sync, G: Gate + Sync>(
     rt: &R,
     place: usize,
@@ -125,14 +125,14 @@ fn joined(
     Ok(ends)
 }
 
-/// The audit of all contests on one sample of cards: how each of them ends, in their order, if this is seen of the cards for each.
+/// Audits all contests on one sample of cards: returns how each of them ends, in order, if this is seen of the cards for each.
 ///
 /// It is refused if a ballot has no card, at the first such ballot of the first contest with one. Otherwise it is refused if a contest
-/// that has a winner lacks a record of a drawn card, at the first such contest and draw. A contest that is tied, or spent, doesn't stop
-/// the others.
+/// that has a winner lacks a record of a drawn card, at the first such contest and draw. A contest that is tied, or out of budget, doesn't
+/// stop the others.
 ///
-/// Each of at most this many workers takes a share of the contests, one after the other. The gate is called with the contest's place in
-/// the file, from 0, in place of the worker's number.
+/// Each of at most this many workers audits a share of the contests, one by one. The gate is called with the contest's place in the file,
+/// from 0, instead of the worker's number.
 pub fn audit_all<R: AllocGlobal + Threads + Sync, G: Gate + Sync>(
     rt: &R,
     list: &[Ballots],

@@ -14,10 +14,9 @@ use std::fmt;
 pub enum SetFault {
     /// Rule M7: the ballot in record `at` of the ballot file, counted from 1, names no card.
     NoCard { at: u32 },
-    /// Rule V4: for the contest at this place of the file, counted from 0, the card of draw `k`, counted from 1, has no record among the
-    /// seen.
+    /// Rule V4: the card of draw `k`, counted from 1, has no record among the seen for the contest at this place of the file, counted from 0.
     NoRecord { contest: u32, card: u32, k: u32 },
-    /// Memory could not be had.
+    /// Memory could not be allocated.
     Memory,
 }
 

@@ -2,7 +2,7 @@
 
 use desk::Gate;
 
-/// The gate of a search that one worker does: it is called with the place of the contest in place of the worker's number.
+/// The gate of a search by one worker. It is called with the place of the contest instead of the worker's number.
 #[derive(Drop)]
 pub struct Numbered<'g, G: Gate> {
     pub gate: &'g G,

@@ -6,7 +6,7 @@ pub fn seen_is_each()
     ensures { SeenIsEach }
 {}
 
-/// It is what is seen for the contest alone, by the records that are about it.
+/// What is seen for a contest among others is what is seen for it alone, by the records that are about it.
 pub fn seen_alone()
     ensures { SeenAlone }
 {}
@@ -16,7 +16,7 @@ pub fn ends_alone()
     ensures { EndsAlone }
 {}
 
-/// A contest has one end, but for a budget that is spent.
+/// A contest has one end, unless its budget runs out.
 pub fn one_end()
     ensures { OneEnd }
 {}
@@ -26,7 +26,7 @@ pub fn end_is_counted()
     ensures { EndIsCounted }
 {}
 
-/// The risk limit of each contest by itself.
+/// Each contest has its own risk limit.
 pub fn each_risk_limit()
     ensures { EachRiskLimit }
 {}

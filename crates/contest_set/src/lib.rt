@@ -1,5 +1,5 @@
-//! All contests of a ballot file, audited on one sample of cards: what is seen of the cards for each contest, and how each of them ends,
-//! by its own ballots and by what is seen for it alone.
+//! Audits all contests of a ballot file on one sample of cards: what is seen of the cards for each contest, and how each contest ends, only
+//! by its own ballots and by what is seen for it.
 #![tactic(auto)]
 
 mod all;

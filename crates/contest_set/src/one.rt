@@ -24,10 +24,10 @@ use session_state::{DoneRound, margins_of};
 use std::alloc::Global;
 use std::thread::Threads;
 
-// The workers of the search of one contest.
+// The number of workers in the search of one contest.
 const ALONE: u32 = 1;
 
-// Each risk is within the limit.
+// Whether each risk is within the limit.
 fn are_confirmed(limit: u32, risks: &[u64]) -> bool
     requires { limit ≤ GREATEST_LIMIT }
     ensures { result ≡ are_confirmed limit risks.now }
@@ -58,7 +58,7 @@ fn round_of(
     ensures refused { IfErr result
         (Refuses (without_record terms.now.seed (length linked.now) seen.now terms.now.draws)) }
 {
-    // Asks for what its contract says: there are at most as many cards as a manifest has.
+    // Called for its contract: there are at most as many cards as a manifest has.
     let _cards = linked.cards();
     let margins = margins_of(alloc, file.claims())?;
     first_round(
@@ -73,7 +73,7 @@ fn round_of(
     )
 }
 
-// How the audit of a contest ends that has a winner, by this file: at the end of one round, unless the card of a draw has no record.
+// How the audit of a contest that has a winner ends, by this file: at the end of one round, unless the card of a draw has no record.
 fn audited(
     alloc: Global,
     place: u32,
@@ -88,7 +88,7 @@ fn audited(
     requires found { Finds terms.now ballots.now (Certificate file) }
     ensures { IsOne m.now terms.now ballots.now seen.now place result }
 {
-    // Asks for what their contracts say: there is a card, and no more ballots than cards.
+    // Called for their contracts: there is a card, and there are no more ballots than cards.
     let _cards = m.cards();
     let _ids = ballots.ids();
     let linked = match link(alloc, m, ballots) {
@@ -116,7 +116,7 @@ fn audited(
     })
 }
 
-/// How the audit of the contest at this place ends, by its own ballots and by what is seen for it.
+/// Audits the contest at this place, by its own ballots and by what is seen for it, and returns how that ends.
 pub fn audit_one<R: AllocGlobal + Threads + Sync, G: Gate + Sync>(
     rt: &R,
     place: u32,
@@ -148,7 +148,7 @@ pub fn audit_one<R: AllocGlobal + Threads + Sync, G: Gate + Sync>(
             order,
             margin,
         }),
-        // The budget isn't of sets.
+        // The budget isn't a number of sets.
         Found::SpentSets { .. } => unreachable!(),
     }
 }

@@ -14,7 +14,7 @@ use manifest::Manifest;
 use seen_file::{SeenCards, SeenFault};
 use std::alloc::Global;
 
-// Nothing is seen for each of this many contests.
+// For each of this many contests, a list on which nothing is seen yet.
 fn nothing_seen(alloc: Global, contests: usize) -> Result<Vec<SeenCards>, Memory>
     ensures { IfOk result (λ seen. seen.items ≡ replicate contests []) }
 {
@@ -25,7 +25,7 @@ fn nothing_seen(alloc: Global, contests: usize) -> Result<Vec<SeenCards>, Memory
     Ok(seen)
 }
 
-// Puts a card that is new with what is seen of it for its contest.
+// Adds a new card, with what is seen of it for its contest.
 fn put(seen: &mut Vec<SeenCards>, told: Told) -> Result<(), Memory>
     requires { told.place < length seen.now.items }
     ensures { OnOk result ((entries : List Entry)
@@ -37,11 +37,11 @@ fn put(seen: &mut Vec<SeenCards>, told: Told) -> Result<(), Memory>
     Ok(())
 }
 
-/// Reads a seen file whose records are of several contests: what is seen of the cards for each contest, in their order.
+/// Reads a seen file whose records are of several contests, and returns what is seen of the cards for each contest, in order.
 ///
-/// Each record is the id of a card, that of a contest, and then `ballot` with candidates' ids in order of preference, as in a ballot
-/// file, or `missing`. Spaces and tabs around a field are removed. If the only field of a record is then empty, it is skipped and has no
-/// number. A byte order mark at the front is removed.
+/// Each record is the id of a card, the id of a contest, and then either `missing`, or `ballot` with candidates' ids in order of
+/// preference, as in a ballot file. Spaces and tabs around a field are removed. If the only field of a record is then empty, the record is
+/// skipped and has no number. A byte order mark at the front is removed.
 ///
 /// It is refused by the first rule that a record breaks, in this order: V1 if it has fewer than three fields, another word, or a field
 /// that isn't blank after `missing`; V2 if its card isn't in the manifest; V6 if its contest isn't among them; V3 if an earlier record

@@ -1,19 +1,19 @@
-// What all contests of an audit share.
+// The terms that all contests of an audit share.
 
 use sampler::Seed;
 
-/// What all contests of an audit share: the draws, the limits, and the work that is allowed.
+/// The terms that all contests of an audit share: the draws, the limits, and the work that is allowed.
 #[derive(Clone, Copy)]
 pub struct SharedTerms {
     /// The seed of the draws.
     pub seed: Seed,
-    /// How many cards are drawn.
+    /// The number of cards that are drawn.
     pub draws: u32,
     /// The risk limit, in millionths.
     pub limit: u32,
     /// Gamma, in thousandths.
     pub gamma: u32,
-    /// How many contests are looked at side by side, at most.
+    /// The maximum number of contests that are audited at the same time.
     pub workers: u32,
     /// The nodes for each piece of a race and for each candidate who didn't win.
     pub nodes: u32,

@@ -1,4 +1,4 @@
--- The records that a bag is of have the same low of each suffix, and so the same best margin.
+-- Records with the same bag have the same low for each suffix, and so the same best margin.
 use Rattle.std.proofs.Common.{◌≡◌, ℕ, ◌-◌, Bool, true, nat_lt, ◌&&◌, cond, List, [], ◌∷◌, map, filter, refl, sym, ap, ap₂, ◌∙◌}
 use Rattle.std.proofs.Math.Path.{fun_ext}
 use Rattle.irv_base.proofs.Members.{Member, here, there, from_filter}

@@ -14,7 +14,7 @@ last order = fold (λ _ c. c) 0 order
 last_is : (before : List ℕ) (c : ℕ) → last (before ++ c ∷ []) ≡ c
 last_is before c = fold-append (λ _ d. d) 0 before (c ∷ [])
 
--- whoever is elected is the last of the order that is known
+-- any candidate who is elected is the last of the known order
 elected : (n : ℕ) (records : List (List ℕ)) (known order : List ℕ) (winner : ℕ) → is_order n known ≡ true → is_tabulated records known ≡ true →
     is_order n order ≡ true → is_tabulated records order ≡ true → Elects order winner → last known ≡ winner
 elected n records known order winner o t o' t' (before, e) = ap last (tabulated_is_one n records known order o t o' t' ∙ e) ∙ last_is before winner

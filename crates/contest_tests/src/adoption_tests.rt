@@ -1,4 +1,4 @@
-// Claims about a contest of three candidates: they are read, and adopted or not. Ids are one above the numbers of the candidates.
+// Claims about a contest of three candidates, which are read, and are adopted or not. Ids are one above the numbers of the candidates.
 use crate::contests::{ONE, TWO, ZERO};
 use adoption::{Adoption, adopt};
 use assertions::Assertion;
@@ -12,14 +12,14 @@ use std::thread::Threads;
 const BALLOTS: &str =
     "1\nContest,1,3,1,2,3\n1,t_1,1\n1,t_2,1\n1,t_3,1\n1,t_4,1\n1,t_5,1\n1,t_6,2,3\n1,t_7,2,3\n1,t_8,2,3\n1,t_9,2,3\n1,t_10,3,2\n1,t_11,3,2\n1,t_12,3,2\n";
 
-// In another order, one of them twice, and with margins that say nothing.
+// The claims in another order, one of them twice, and with margins that mean nothing.
 const CLAIMS: &str =
     "{\"candidates\":[\"3\",\"1\",\"2\"],\"contest\":\"1\",\"winner\":\"2\",\"assertions\":[{\"kind\":\"NEN\",\"winner\":\"2\",\"loser\":\"1\",\"rest\":[\"2\",\"1\"],\"margin\":0},{\"kind\":\"NEB\",\"winner\":\"2\",\"loser\":\"3\"},{\"kind\":\"NEN\",\"winner\":\"2\",\"loser\":\"1\",\"rest\":[\"1\",\"2\"],\"margin\":7}]}";
 
 const NEN: &str =
     "{\"kind\":\"NEN\",\"winner\":\"2\",\"loser\":\"1\",\"rest\":[\"1\",\"2\"],\"margin\":7}";
 
-// The NEB alone.
+// Only the NEB.
 const LESS: &str =
     "{\"candidates\":[\"1\",\"2\",\"3\"],\"contest\":\"1\",\"winner\":\"2\",\"assertions\":[{\"kind\":\"NEB\",\"winner\":\"2\",\"loser\":\"3\"}]}";
 
@@ -42,7 +42,7 @@ fn adopted<R: Abort + AllocGlobal + Threads + Sync>(
     adopt(alloc, &votes, &mut tallies, &claims, Budget::Nodes(100))
 }
 
-// What comes of the claims with one text in place of another.
+// The result for the claims with one text replaced by another.
 fn changed<R: Abort + AllocGlobal + Threads + Sync>(
     rt: &R,
     from: &str,

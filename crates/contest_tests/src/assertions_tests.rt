@@ -1,4 +1,4 @@
-// Margins over ballots that were counted by hand.
+// Tests of margins over ballots that were counted by hand.
 ghost use Rattle.std.specs.Prelude.{◌≡◌};
 
 use crate::contests::{ONE, ZERO, counted_of, one_against_two};

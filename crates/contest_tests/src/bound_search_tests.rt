@@ -1,4 +1,5 @@
-// The search for the best margin: contests that were counted by hand, turns of a front of one suffix, and workers that a gate holds up.
+// Tests of the search for the best margin: contests that were counted by hand, turns of a front of one suffix, and workers that a gate
+// holds up.
 ghost use Rattle.std.specs.Prelude.{◌≡◌, ◌<◌, ◌≤◌, All, length};
 ghost use Rattle.irv_base.specs.declared.limits.TheConstants.{FEWEST_CANDIDATES, ROOM, MOST_RECORDS, MOST_WORKERS};
 
@@ -18,10 +19,10 @@ use std::sync::ledger::{Blank, Ledger};
 use std::thread::Threads;
 use suffix_tree::{Tail, score};
 
-// Turns for which a worker is held: enough for another to begin on a machine that is busy.
+// The number of turns for which a worker is held up, which is enough for another to begin on a busy machine.
 const PATIENCE: u32 = 4_000_000_000;
 
-/// Counts how often it is called, and holds piece 0 up until another was taken, for at most this many turns.
+/// Counts how often it is called, and holds up piece 0 until another piece is taken, for at most this many turns.
 #[derive(Drop)]
 struct Held {
     until: u32,
@@ -108,8 +109,8 @@ fn race_of<R: AllocGlobal + Threads + Sync, G: Gate + Sync>(
     }
 }
 
-// The order 1, 0, 2 has 1 against it. The piece 0, 2 is expanded; the last is where another worker takes it before the order is
-// found.
+// The order 1, 0, 2 has 1 against it. The piece 0, 2 is expanded; the last piece is expanded if another worker takes it before the order
+// is found.
 fn is_found<R: AllocGlobal + Threads + Sync, G: Gate + Sync>(
     rt: &R,
     workers: u32,
@@ -175,7 +176,7 @@ fn keeps_the_start_of_two(rt: HostRuntime) {
     }
 }
 
-// The bound is 0 from the start: nothing is below it.
+// The bound is 0 from the start, so nothing is below it.
 #[test]
 fn expands_nothing_where_the_start_is_possible(rt: HostRuntime) {
     let rankings = tie_for_the_win();
@@ -209,7 +210,7 @@ fn finds_a_possible_order(rt: HostRuntime) {
     }
 }
 
-// Without a node it isn't known whether the tie decides.
+// Without a node it isn't known whether the tie matters.
 #[test]
 fn spends_no_node_on_a_tie(rt: HostRuntime) {
     let rankings = tie_that_decides();
@@ -247,7 +248,7 @@ fn workers_share_the_bound(rt: HostRuntime) {
     assert!(rt; gate.was_in_time());
 }
 
-// It found the order 1, 0, 2, and only the third piece was expanded.
+// The search found the order 1, 0, 2, and expanded only the third piece.
 fn took_all(end: &WorkerEnd) -> bool {
     let found = match &end.best {
         Some(best) => { best.margin == 1 && best.order.candidates() == [ONE, ZERO, TWO].as_slice() }
@@ -292,7 +293,7 @@ fn one_worker_takes_all(rt: HostRuntime) {
     }
 }
 
-// Two looks for each of the pieces that close at once, one for the spent one, none for the last.
+// Two looks for each of the pieces that close at once, one for the piece that runs out of budget, and none for the last piece.
 #[test]
 fn skips_what_comes_after_a_spent_piece(rt: HostRuntime) {
     let (end, bound) = alone(&rt, 0).expect(&rt, "memory");
@@ -302,7 +303,7 @@ fn skips_what_comes_after_a_spent_piece(rt: HostRuntime) {
     assert!(rt; end.looks == 5);
 }
 
-// The first turn of the front of candidate 1 alone.
+// Only the first turn of the front of candidate 1.
 fn first_turn<L: Ledger>(
     alloc: Global,
     blank: Blank,
@@ -320,7 +321,7 @@ fn first_turn<L: Ledger>(
     front.turn(alloc, bound, left, tallies, &mut steps)
 }
 
-// Over two ballots for candidate 0 and one for 1, of two: the suffix 1 and the order 0, 1 have 1 against them.
+// There are two candidates, with two ballots for 0 and one for 1. The suffix 1 and the order 0, 1 have 1 against them.
 fn turn_of_two<R: AllocGlobal + Threads + Sync>(
     rt: &R,
     bound: u32,

@@ -1,4 +1,4 @@
-// Canonical certificates of contests that were worked by hand, at each number of workers, and budgets that are spent.
+// Tests of canonical certificates of contests that were worked out by hand, at each number of workers, and of budgets that run out.
 ghost use Rattle.std.specs.Prelude.{◌≡◌, ◌<◌, ◌≤◌, ℕ, List, length, All, IsTrue};
 ghost use Rattle.irv_base.specs.Orders.{is_order, Elects};
 ghost use Rattle.irv_base.specs.Tabulation.{is_tabulated};
@@ -90,7 +90,7 @@ fn three_candidates_canonical_certificate(rt: HostRuntime) {
     }
 }
 
-// Before the order 1,0,2 stand the suffixes 2 and 0,2.
+// The suffixes 2 and 0,2 come before the order 1,0,2.
 #[test]
 fn three_candidates_order_over_budget(rt: HostRuntime) {
     for workers in 1..=MOST_WORKERS {

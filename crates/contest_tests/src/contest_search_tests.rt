@@ -1,4 +1,4 @@
-// What a search finds of contests that were worked by hand: a certificate, a tie, a budget that is spent.
+// Tests of what a search finds in contests that were worked out by hand: a certificate, a tie, a budget that runs out.
 use crate::contests::{ONE, TWO, ZERO};
 use assertion_file::AssertionFile;
 use assertions::Assertion;
@@ -57,8 +57,8 @@ fn three_candidates_are_spent(rt: HostRuntime) {
     assert!(rt; matches!(&found, Ok(Found::Spent { .. })));
 }
 
-// The sets of the order 2,1,3 are those of its suffixes and that of candidate 1 alone. With one fewer the answer has the order that a search
-// starts with, and its hardness.
+// The sets of the order 2,1,3 are those of its suffixes and the set of only candidate 1. With one set fewer, the answer has the order that a
+// search starts with, and its hardness.
 #[test]
 fn three_candidates_by_sets(rt: HostRuntime) {
     let ballots = read_ballots(rt.alloc(), THREE_CANDIDATES, None).expect(&rt, "ballots");

@@ -18,7 +18,7 @@ pub const THREE: Candidate = Candidate(3);
 
 pub const FOUR: Candidate = Candidate(4);
 
-/// The ranking of one candidate alone.
+/// The ranking of only one candidate.
 pub fn only(c: Candidate) -> Ranking
     ensures { result ≡ c ∷ [] }
 {
@@ -116,7 +116,7 @@ pub fn tie_for_the_win() -> [Ranking; 5]
     [only(ZERO), only(ZERO), only(ONE), only(ONE), only(TWO)]
 }
 
-/// Three ballots 0, two ballots 1,2 and two 2,1: of 1 and 2, who tie in the first round, the one that is left wins.
+/// Three ballots 0, two ballots 1,2 and two 2,1. Candidates 1 and 2 tie in the first round, and the one that is left wins.
 pub fn tie_that_decides() -> [Ranking; 7]
     ensures { All (λ ranking. All (λ c. c < 3) ranking) result }
 {

@@ -1,4 +1,4 @@
-// The checker of lists: budgets at the most candidates and at nine, sets of 20 and of nine, and a certificate of three.
+// Tests of the checker of lists: budgets at the maximum number of candidates and at nine, sets of 20 and of nine, and a certificate of three.
 mod files;
 
 use crate::contests::{FOUR, ONE, THREE, TWO, ZERO};
@@ -11,7 +11,7 @@ fn nen(w: Candidate, l: Candidate, rest: CandSet) -> Assertion {
     Assertion::Nen { w, l, rest }
 }
 
-// Each refutes the whole orders that its candidate is first in, and no shorter suffix.
+// Each claim refutes the whole orders in which its candidate is first, and no shorter suffix.
 fn whole_orders() -> [Assertion; 9] {
     let mut all = CandSet::empty();
     for c in 0..9 {
@@ -50,7 +50,7 @@ fn stands(answer: &Result<Verdict, CoverFault>, backwards: &[Candidate]) -> bool
     }
 }
 
-// A suffix counts for each length below that of a whole order.
+// One suffix counts for each length below that of a whole order.
 #[test]
 fn empty_list_spent(rt: HostRuntime) {
     let most = MOST_CANDIDATES;
@@ -124,7 +124,7 @@ fn is_spent_by_sets(answer: &Result<Verdict, CoverFault>, most: u32) -> bool {
     }
 }
 
-// A set counts for each length below that of a whole order: the walk goes straight to the least order.
+// One set counts for each length below that of a whole order: the walk goes straight to the least order.
 #[test]
 fn empty_list_by_sets(rt: HostRuntime) {
     let mut backwards = [ZERO; 20];
@@ -141,7 +141,8 @@ fn empty_list_by_sets(rt: HostRuntime) {
     assert!(rt; is_spent_by_sets(&covered(rt.alloc(), 20, ZERO, &[], Budget::Sets(18)), 18));
 }
 
-// All sets but nobody's, the winner's alone and that of all: of nine candidates they are 509, for 69,281 suffixes of each.
+// All sets count except the empty one, the one of only the winner, and the one of all: for nine candidates they are 509, for 69,281 suffixes
+// of each.
 #[test]
 fn whole_orders_by_sets(rt: HostRuntime) {
     assert!(rt; is_covered(&covered(rt.alloc(), 9, ZERO, &whole_orders(), Budget::Sets(509))));

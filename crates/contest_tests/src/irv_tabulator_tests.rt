@@ -1,4 +1,4 @@
-// Tabulation: contests that were counted by hand, with and without ties.
+// Tests of tabulation on contests that were counted by hand, with and without ties.
 
 ghost use Rattle.std.specs.Prelude.{◌<◌, ◌≤◌, length, All};
 ghost use Rattle.irv_base.specs.declared.limits.TheConstants.{FEWEST_CANDIDATES, ROOM, MOST_RECORDS};
@@ -110,7 +110,7 @@ fn tie_in_a_later_round(rt: HostRuntime) {
     assert!(rt; ties_in(&tab, 2, CandSet::empty().with(ZERO).with(ONE), 2));
 }
 
-// 1 is eliminated first, and leaves 2 its ballots.
+// Candidate 1 is eliminated first, and its ballots go to 2.
 #[test]
 fn least_number_of_the_tied_leaves(rt: HostRuntime) {
     let rankings = tie_that_decides();
@@ -119,7 +119,7 @@ fn least_number_of_the_tied_leaves(rt: HostRuntime) {
     assert!(rt; ties_in(&tab, 1, CandSet::empty().with(ONE).with(TWO), 2));
 }
 
-// Without a ballot all who remain tie in every round.
+// Without a ballot, all remaining candidates tie in every round.
 #[test]
 fn first_of_several_ties(rt: HostRuntime) {
     let tab = tabulated(&rt, 3, &[]).expect(&rt, "tabulated");

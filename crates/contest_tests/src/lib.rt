@@ -1,5 +1,5 @@
-//! Tests of the crates on a contest, by their public calls: counts, tabulation, assertions, the race and the search, certificates, the
-//! checker, texts. A module is named for the crate that it tests.
+//! Tests of the crates on a contest, through their public calls: counts, tabulation, assertions, the race and the search, certificates, the
+//! checker, and texts. Each module is named after the crate that it tests.
 #![tactic(auto)]
 
 #[cfg(test)]

@@ -1,4 +1,4 @@
-// The race as a machine over events: runs of one and of two workers.
+// Tests of the race as a machine over events: runs of one worker and of two.
 
 use race_core::{Event, State};
 use std::test::Fail;

@@ -1,4 +1,4 @@
-// The texts of small contests, byte for byte. Where ids are numbers, they are one above those of the candidates.
+// Tests of the texts of small contests, byte for byte. If ids are numbers, they are one above those of the candidates.
 ghost use Rattle.std.specs.Prelude.{length, IfOk};
 ghost use Rattle.irv_tabulator.specs.Results.{IsTabulation};
 

@@ -1,4 +1,4 @@
-// Certificates by sets of candidates, of contests that were worked by hand, and budgets that are spent.
+// Tests of certificates by sets of candidates, for contests that were worked out by hand, and of budgets that run out.
 ghost use Rattle.std.specs.Prelude.{◌<◌, ◌≤◌, length, All};
 ghost use Rattle.irv_base.specs.declared.limits.TheConstants.{FEWEST_CANDIDATES, ROOM, MOST_RECORDS};
 
@@ -14,7 +14,7 @@ use std::thread::Threads;
 
 const FIVE: Candidate = Candidate(5);
 
-// What a search by sets comes to.
+// The result of a search by sets.
 fn answer<R: AllocGlobal + Threads + Sync>(
     rt: &R,
     n: u32,
@@ -34,8 +34,8 @@ fn answer<R: AllocGlobal + Threads + Sync>(
     }
 }
 
-// Of fifteen ballots 0 has four, 1 has three, and four others have two each, one of which goes to the next of these four then, and one
-// to 0.
+// Candidate 0 has four of the fifteen ballots, 1 has three, and four others have two each. One of each two then goes to the next of these
+// four, and the other to 0.
 fn near_equals() -> [Ranking; 15]
     ensures { All (λ ranking. All (λ c. c < 6) ranking) result }
 {
@@ -94,7 +94,7 @@ fn three_candidates_need_three_sets(rt: HostRuntime) {
     }
 }
 
-// The order 2,1,0 has hardness 2, and is the first that is tried.
+// The order 2,1,0 has hardness 2, and is the first order that is tried.
 #[test]
 fn three_candidates_are_spent_at_two(rt: HostRuntime) {
     let end = answer(&rt, 3, ballots_of_three().as_slice(), 2);
@@ -119,7 +119,7 @@ fn tie_for_the_win_is_undecided(rt: HostRuntime) {
     assert!(rt; matches!(&end, Ok(SetsEnd::Undecided)));
 }
 
-// Each set of candidates but 0 stands below the best margin, 2: those are 31, with 325 suffixes.
+// Each set of the candidates other than 0 is below the best margin, 2. There are 31 of these sets, with 325 suffixes.
 #[test]
 fn near_equals_need_each_of_their_sets(rt: HostRuntime) {
     match answer(&rt, 6, near_equals().as_slice(), 31) {

@@ -1,4 +1,4 @@
-// Counts of ballots: contests whose rows of tallies were counted by hand, and rows of all sets against a plain count.
+// Tests of counts of ballots: contests whose rows of tallies were counted by hand, and rows of all sets compared with a plain count.
 ghost use Rattle.std.specs.Prelude.{◌≡◌, ◌<◌, ◌≤◌, ◌^◌, All, IfOk, length};
 ghost use Rattle.irv_base.specs.declared.limits.TheConstants.{FEWEST_CANDIDATES, ROOM, MOST_RECORDS, MOST_WORKERS};
 
@@ -9,16 +9,17 @@ use std::alloc::Global;
 use std::process::Abort;
 use std::thread::Threads;
 
-// So few candidates have sums whatever the number of ballots.
+// This few candidates have sums whatever the number of ballots.
 const FEW: u32 = 5;
 
-// So many candidates have no sums where there are ten ballots, so that rows are counted.
+// This many candidates have no sums if there are ten ballots, so their rows are counted.
 const MANY: u32 = 17;
 
-// The rows of the sets of this many candidates are looked at.
+// The tests look at the rows of the sets of this many candidates.
 const LOOKED_AT: u32 = 13;
 
-// Ten ballots so often are one share for one worker, two even ones for two, and for more of them two full ones and part of a third.
+// Ten ballots this many times are one share for one worker, two even shares for two, and two full shares and part of a third for more
+// workers.
 const TIMES: u32 = 1001;
 
 #[test]
@@ -36,7 +37,7 @@ fn counts_first_choices(rt: HostRuntime) {
     assert!(rt; lent.get(1).copied() == Some(2));
 }
 
-// On how many ballots the candidate 10 is the first of the set.
+// The number of ballots on which candidate 10 is the first of the set.
 fn votes_of_10(tallies: &mut Tallies, set: CandSet) -> Option<u32>
     requires { set < 2 ^ tallies.old.bag.n }
     ensures { tallies.new ≡ tallies.old }
@@ -45,7 +46,7 @@ fn votes_of_10(tallies: &mut Tallies, set: CandSet) -> Option<u32>
     row.get(10).copied()
 }
 
-// A row that was kept is that of its own set after another was kept too.
+// A row that was kept is still that of its own set after another row is kept.
 #[test]
 fn keeps_each_row_under_its_set(rt: HostRuntime) {
     let rankings = [only(ZERO), only(Candidate(10)), only(Candidate(10))];
@@ -99,7 +100,8 @@ fn votes_of(tallies: &mut Tallies, set: CandSet) -> Option<Vec<u32>>
     tallies.tally(set).ok()
 }
 
-// The row of each set has for each candidate the number of those ballots that have it first of the set, each ballot `times` over.
+// The row of each set has, for each candidate, the number of ballots that have the candidate first of the set, each ballot counted `times`
+// times.
 fn check_rows(rt: &impl Abort, tallies: &mut Tallies, times: usize) {
     for number in 1..1u32 << tallies.candidates().min(LOOKED_AT) {
         let set = set_numbered(number);
@@ -118,7 +120,7 @@ fn check_rows(rt: &impl Abort, tallies: &mut Tallies, times: usize) {
     }
 }
 
-// Counts the ballots with these rankings, each of which is there `times` over, and looks at the rows.
+// Counts the ballots with these rankings, each of which occurs `times` times, and looks at the rows.
 fn check_count<R: Abort + AllocGlobal + Threads + Sync>(
     rt: &R,
     n: u32,
@@ -147,7 +149,7 @@ fn entries_say_what_the_ballots_say(rt: HostRuntime) {
     check_count(&rt, MANY, ballots().as_slice(), 1, 1);
 }
 
-// The ballots again and again.
+// The ballots, over and over.
 fn many_ballots(alloc: Global) -> Result<Vec<Ranking>, Memory>
     ensures most { IfOk result (λ rankings. length rankings.items ≤ MOST_RECORDS) }
     ensures few { IfOk result (λ rankings.

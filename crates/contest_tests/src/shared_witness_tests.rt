@@ -1,4 +1,4 @@
-// The race that threads share: seats in turn, and workers in threads, who take each piece once and post.
+// Tests of the race that threads share: seats in turn, and workers in threads, which take each piece once and post.
 ghost use Rattle.std.specs.Prelude.{◌≡◌, ◌≤◌};
 ghost use Rattle.irv_base.specs.declared.limits.TheConstants.{MOST_WORKERS};
 
@@ -42,7 +42,7 @@ const PIECES: u32 = 1000;
 
 const FIRST: u32 = 5000;
 
-/// What the worker that takes a piece posts.
+/// The value that a worker posts when it takes a piece.
 fn value_of(piece: u32) -> u32 {
     200 + piece % 613
 }
@@ -66,7 +66,7 @@ fn take_all(race: &Race, seat: &mut RaceSeat, taken: &[AtomicU64])
     }
 }
 
-/// A race of workers in threads: the bound at its end, and how often each piece was taken.
+/// Runs a race of workers in threads, and returns the bound at its end and how often each piece was taken.
 fn raced<R: Threads + Sync>(
     rt: &R,
     alloc: Global,

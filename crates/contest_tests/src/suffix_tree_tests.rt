@@ -1,4 +1,4 @@
-// Scored suffixes: each call that allocates once, on a contest of three ballots that was counted by hand.
+// Tests of scored suffixes: each call that allocates once, on a contest of three ballots that was counted by hand.
 ghost use Rattle.std.specs.Prelude.{◌≡◌, ◌<◌, IfOk};
 ghost use Rattle.suffix_tree.specs.Suffixes.{children};
 ghost use Rattle.suffix_tree.specs.Scores.{AreScoredBelow, IsScoredOver};

@@ -1,4 +1,4 @@
--- A ballot file without its other contests says the same of the one that is left.
+-- A ballot file without its other contests says the same of the contest that is left.
 use Rattle.std.proofs.Common.{◌≡◌, ◌≤◌, ◌<◌, ◌+◌, ◌∙◌, ◌++◌, ◌∷◌, [], ◌||◌, inl, inr, ℕ, zero, suc, Bool, true, false, not, cond, List, Option, Some, None, Result, Ok, Err, length, map, filter, take, drop, nat_lt, refl, sym, ap, subst, arith, append-nil, append_assoc, length-append, codes, ltb-true}
 use Rattle.std.specs.Prelude.{find, if◌then◌else◌}
 use Rattle.std.specs.List.{list_any, slice_get}
@@ -42,7 +42,7 @@ elsewhere at other id (Some ids) c h = by (is_name id) (names_of ids) h where
   by true (Some candidates) g =
       let s : record { at = at; id = id; candidates = candidates } ≡ c = cc in ap (λ (x : Contest). Ok (record x { at = other })) s
 
--- what is known of a record that is accepted
+-- the facts about a record that is accepted
 record IsRead (earlier : List Contest) (row : Fields) (c : Contest) : Type 0 where
   pub named : (id : Id) → lists id row ≡ is_same c.id id
   pub new : list_any (has_id c.id) earlier ≡ false
@@ -109,7 +109,7 @@ grown (suc n) earlier at (row ∷ rows) contests h = by (contest_of earlier at r
   by (Err rule) g next = absurd cc
   by (Ok c) g next = let (more, is) = next c g in (c ∷ more, is ∙ append_assoc earlier (c ∷ []) more)
 
--- an id that stood before isn't listed again
+-- an id that came before isn't listed again
 none-listed : (n : ℕ) (earlier : List Contest) (at : ℕ) (rows : List Fields) (contests : List Contest) (id : Id) → list_any (has_id id) earlier ≡ true →
     contests_in n earlier at rows ≡ Ok contests → filter (lists id) (take n rows) ≡ []
 none-listed zero earlier at rows contests id stood h = refl
@@ -131,7 +131,7 @@ none-listed (suc n) earlier at (row ∷ rows) contests id stood h =
               ∙ next c (any-push (has_id id) earlier c ∙ ap (λ b. b || has_id id c) stood) g
         ]
 
--- the contest's own record, alone
+-- only the contest's own record
 record IsListed (n : ℕ) (rows : List Fields) (id : Id) (c : Contest) : Type 0 where
   pub row : Fields
   pub only : filter (lists id) (take n rows) ≡ row ∷ []
@@ -180,7 +180,7 @@ one-listed (suc n) earlier at (row ∷ rows) contests id c none found h =
 
 -- ---- the record of a ballot
 
--- what is known of one that is accepted
+-- the facts about a ballot record that is accepted
 record IsCast (contests : List Contest) (earlier : List Ballot) (at : ℕ) (row : Fields) (b : Ballot) : Type 0 where
   pub of : Id
   pub id : Id
@@ -242,7 +242,7 @@ module _ (contests : List Contest) (earlier : List Ballot) (at : ℕ) (b : Ballo
     by true e g = cast-in row e g
     by false e g = absurd (cc g)
 
--- and what suffices for that
+-- what suffices for a ballot record to be accepted
 casts : (contests : List Contest) (earlier : List Ballot) (at : ℕ) (of id : Id) (preferences : Fields) (contest : Contest) (ranking : List ℕ) →
     nat_lt (length earlier) MOST_RECORDS ≡ true → is_name id ≡ true → contest_with_id contests of ≡ Some contest →
     is_among (ballot_ids contest.id earlier) id ≡ false → ranking_of contest.candidates preferences ≡ Some ranking →
@@ -270,7 +270,7 @@ module _ (contests : List Contest) (c : Contest) (found : contest_with_id contes
   abbrev only : List Contest
   only = record c { at = 2 } ∷ []
 
-  -- one of the contest
+  -- a ballot of the contest
   own-more : (all mine : List Ballot) (b d : Ballot) → AreOwn c.id all mine → b.contest ≡ c.id → d.contest ≡ c.id → b.id ≡ d.id → b.ranking ≡ d.ranking →
       AreOwn c.id (all ++ b ∷ []) (mine ++ d ∷ [])
   own-more all mine b d are of-b of-d ids rankings =
@@ -286,7 +286,7 @@ module _ (contests : List Contest) (c : Contest) (found : contest_with_id contes
         fewer = omega (arith, are.fewer, length-append mine (d ∷ []), length-append all (b ∷ []));
       }
 
-  -- one of another
+  -- a ballot of another contest
   other-more : (all mine : List Ballot) (b : Ballot) → AreOwn c.id all mine → is_same b.contest c.id ≡ false → AreOwn c.id (all ++ b ∷ []) mine
   other-more all mine b are other = record {
     ids = ids-other c.id all b other ∙ are.ids;

@@ -1,4 +1,4 @@
--- What an audit of all contests comes to.
+-- How an audit of all contests ends.
 use Rattle.std.proofs.Common.{◌≡◌, inl, inr, ℕ, Bool, true, false, List, Result, Ok, Err, codes, refl, sym, ap, subst, ◌∙◌}
 use Rattle.ballots.specs.Ballots.{BallotFile}
 use Rattle.ballots.specs.Grammar.{contests_of}

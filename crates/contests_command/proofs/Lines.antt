@@ -1,4 +1,4 @@
--- The blocks of the contests, one after the other.
+-- The blocks of the contests, in order.
 use Rattle.std.proofs.Common.{◌≡◌, ℕ, zero, suc, ◌+◌, ◌<◌, List, [], ◌∷◌, ◌++◌, drop, get_or, length, refl, sym, ap, ◌∙◌, append_assoc, arith}
 use Rattle.std.specs.List.{AllZip}
 use Rattle.std.proofs.lemmas.List.{drop_more}
@@ -7,7 +7,7 @@ use Rattle.contest_set.specs.declared.end.ContestEnd.{ContestEnd}
 use Rattle.contests_command.specs.Table.{block, blocks}
 
 module _ (limit : ℕ) (list : List BallotFile) (ends : List ContestEnd) where
-  -- those of the contests from index i on
+  -- the blocks of the contests from index i
   abbrev pub blocks_from : ℕ → List ℕ
   blocks_from i = blocks limit (drop i list) (drop i ends)
 
@@ -20,7 +20,7 @@ module _ (limit : ℕ) (list : List BallotFile) (ends : List ContestEnd) where
       let left : blocks_from i ≡ block limit ballots end ++ blocks_from (i + 1) = (λ j. blocks limit (first j) (second j)) in
       ap (λ t. t ++ blocks_from (i + 1)) line ∙ append_assoc text (block limit ballots end) (blocks_from (i + 1)) ∙ ap (λ t. text ++ t) (sym left) ∙ so_far
 
--- ---- parts that are added one after the other
+-- ---- parts that are added one by one
 
 pub two_added : (old one two first second : List ℕ) → one ≡ old ++ first → two ≡ one ++ second → two ≡ old ++ (first ++ second)
 two_added old one two first second a b = b ∙ ap (λ t. t ++ second) a ∙ append_assoc old first second

@@ -1,4 +1,4 @@
--- Where the ballots of a contest stand in a file doesn't matter to its end.
+-- The places of a contest's ballots in a file don't matter to its end.
 use Rattle.std.proofs.Common.{◌≡◌, ◌⊎◌, inl, inr, ℕ, List}
 use Rattle.budget.specs.declared.budget.Budget.TheVariants.{Nodes}
 use Rattle.ballots.specs.Ballots.{BallotFile}
@@ -53,7 +53,7 @@ module _ (ballots : BallotFile) (places : List ℕ) where
   found-moved nodes (FoundSpent last order margin) is = spent-moved nodes last order margin is
   found-moved nodes (SpentSets sets order margin) is = absurd is
 
-  -- nor does the number of workers
+  -- the number of workers doesn't matter either
   pub ends_moved : (batches : Batches) (terms : SharedTerms) (workers : ℕ) (seen : List Entry) (end : ContestEnd) →
       EndsAs batches (record terms { workers = workers }) moved seen end → EndsAs batches terms ballots seen end
   ends_moved batches terms workers seen (Tied round tied tally) is = found-moved terms.nodes (FoundTie round tied tally) is

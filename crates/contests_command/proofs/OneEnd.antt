@@ -1,4 +1,4 @@
--- Where the nodes suffice for each contest, an audit of all contests comes to one end.
+-- If the nodes suffice for each contest, an audit of all contests has one end.
 use Rattle.std.proofs.Common.{◌≡◌, ◌≤◌, ◌<◌, ◌∙◌, ◌&&◌, ◌++◌, inl, inr, ℕ, zero, suc, Bool, List, [], ◌∷◌, None, Some, length, take, All, refl, sym, ap, subst, arith}
 use Rattle.std.specs.List.{slice_get}
 use Rattle.std.proofs.lemmas.Bool.Decides.{leb_tells}
@@ -29,7 +29,7 @@ use Rattle.contests_command.specs.Table.{all_signed, audited_lines, block, block
 
 -- ---- one contest
 
--- two ends tell the same of a contest
+-- two ends say the same of a contest
 pub record TellSame (limit : ℕ) (ballots : BallotFile) (end other : ContestEnd) : Type 0 where
   pub lines : end_lines limit ballots end ≡ end_lines limit ballots other
   pub signed : is_signed end ≡ is_signed other
@@ -126,7 +126,7 @@ module _ (task : ContestsTask) (list : List BallotFile) (batches : Batches) (see
       let (end, is, own) = end-at batches terms list seen ends contest lacks.ballots lacks.entries suffice are lacks.listed lacks.seen_for_it in
       lacks-none batches terms lacks.ballots lacks.entries end card k own is lacks.lacks
 
-  -- of two that lack a record none comes before the other
+  -- if two contests lack a record, neither comes before the other
   not-before : (contest card k contest' card' k' : ℕ) → FirstLacksRecord batches terms list seen contest card k →
       FirstLacksRecord batches terms list seen contest' card' k' → contest < contest' → ⊥
   not-before contest card k contest' card' k' a b less =

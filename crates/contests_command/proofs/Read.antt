@@ -1,4 +1,4 @@
--- What is known of contests that are read, and of what is seen for them.
+-- Facts about contests that have been read, and about what is seen for them.
 use Rattle.std.proofs.Common.{◌≡◌, ◌≤◌, ◌+◌, ◌&&◌, ◌∙◌, ℕ, Bool, true, false, List, [], ◌∷◌, length, map, drop, Option, Some, None, Result, Ok, Err, nat_le, refl, sym, ap, arith, leb-true}
 use Rattle.std.specs.Prelude.{find, if◌then◌else◌, not, option_and_then}
 use Rattle.std.proofs.lemmas.Bool.{and_parts}
@@ -37,7 +37,7 @@ same-ids : (bs : List Ballot) (contests : List Contest) → contest_ids (map (λ
 same-ids bs [] = refl
 same-ids bs (c ∷ contests) = ap (λ ids. c.id ∷ ids) (same-ids bs contests)
 
--- they are those that the file lists
+-- the contests are those that the file lists
 as-listed : (n : ℕ) (rows : List Fields) (contests : List Contest) (list : List BallotFile) → after_all n rows contests contests ≡ Ok list →
     (bs : List Ballot) × (list ≡ map (λ (c : Contest). file_of c bs) contests)
 as-listed n rows contests list h = by (ballots_after contests [] (2 + n) (drop n rows)) h where

@@ -1,4 +1,4 @@
--- How a contest ends can be told.
+-- The end of a contest can be printed.
 use Rattle.std.proofs.Common.{◌≡◌, ◌∙◌, ℕ, List, [], ◌∷◌, length, map, None, suc, refl, sym, ap, arith}
 use Rattle.std.specs.Prelude.{zip}
 use Rattle.std.specs.List.{AllZip}

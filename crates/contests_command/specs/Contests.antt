@@ -27,7 +27,7 @@ use Rattle.contests_command.specs.Table.{all_signed, contests_table}
 
 -- ---- how it ends
 
--- what all contests share
+-- the terms that all contests share
 abbrev pub terms_of : ContestsTask → SharedTerms
 terms_of task = record {
   seed = task.seed;
@@ -56,7 +56,7 @@ module _ (task : ContestsTask) (list : List BallotFile) (batches : Batches)
     pub lacks : FirstLacksRecord batches (terms_of task) list seen contest card k
     pub refused : verdict ≡ Refused task.seen (no_record_text card k)
 
-  -- each contest ends by itself, and that is printed
+  -- each contest ends by itself, and the ends are printed
   pub record IsTold (verdict : Verdict) : Type 0 where
     pub placed : first_without_card_of_all batches list ≡ None
     pub ends : List ContestEnd
@@ -70,13 +70,13 @@ module _ (task : ContestsTask) (list : List BallotFile) (batches : Batches)
 -- ---- the files, the last one first
 
 module _ (task : ContestsTask) where
-  -- what is seen of the cards is read
+  -- the command reads what is seen of the cards
   abbrev pub after_manifest : List BallotFile → Batches → Script
   after_manifest list batches = Read task.seen (λ bytes.
       go_on (told (refused_seen task.seen) (seen_by batches list bytes)) (λ seen.
       Ends (Audits task list batches seen)))
 
-  -- the manifest is read
+  -- the command reads the manifest
   abbrev pub after_ballots : List BallotFile → Script
   after_ballots list = Read task.manifest (λ bytes.
       go_on (told (refused_manifest task.manifest) (manifest_of bytes)) (after_manifest list))
@@ -91,19 +91,19 @@ kinds = Done ∷ Unconfirmed ∷ []
 
 -- ---- nodes that suffice
 
--- the nodes are as many as may be needed for each candidate whom the tabulated order doesn't elect
+-- there are as many nodes as may be needed for each candidate whom the tabulated order doesn't elect
 abbrev pub SufficeFor : ℕ → BallotFile → Type 0
 SufficeFor nodes ballots =
     (winner c : ℕ) (won : IsWon ballots winner) → IsOther ballots winner c →
     nodes_for ballots won.order winner c ≤ nodes
 
--- the budget of the contest isn't spent
+-- the contest isn't out of budget
 abbrev pub IsUnspent : ContestEnd → Type 0
 IsUnspent (Tied round tied tally) = ⊤
 IsUnspent (Spent last order margin) = ⊥
 IsUnspent (Audited file counts risks signed) = ⊤
 
--- ---- what is known of contests that are read
+-- ---- facts about contests that have been read
 
 pub record AreContests (list : List BallotFile) : Type 0 where
   pub few : length list ≤ MOST_CONTESTS

@@ -1,4 +1,4 @@
--- The end of an audit of all contests if no budget is spent.
+-- The end of an audit of all contests if no budget runs out.
 use Rattle.std.specs.Prelude.{◌≡◌, List, All}
 use Rattle.ballots.specs.Ballots.{BallotFile}
 use Rattle.manifest.specs.Cards.{Batches}
@@ -10,14 +10,14 @@ use Rattle.contest_set.specs.declared.end.ContestEnd.{ContestEnd}
 use Rattle.contest_set.specs.declared.terms.SharedTerms.{SharedTerms}
 use Rattle.contests_command.specs.Contests.{Audits, IsUnspent, SufficeFor}
 
--- the nodes of a contest aren't spent, if they are enough for it
+-- the nodes of a contest don't run out, if they are enough for it
 abbrev pub EnoughNodes : Type 0
 EnoughNodes =
     (batches : Batches) (terms : SharedTerms) (ballots : BallotFile) (seen : List Entry)
     (end : ContestEnd) →
     SufficeFor terms.nodes ballots → EndsAs batches terms ballots seen end → IsUnspent end
 
--- it has one end, if the nodes are enough for each contest
+-- an audit of all contests has one end, if the nodes are enough for each contest
 abbrev pub AuditsOnce : Type 0
 AuditsOnce =
     (task : ContestsTask) (list : List BallotFile) (batches : Batches)

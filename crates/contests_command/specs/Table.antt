@@ -24,7 +24,7 @@ claim_line assertion margin counts risk confirmed =
     assertion ++ codes " margin " ++ decimal margin ++ codes " counts " ++ counts_text counts
     ++ codes " risk " ++ risk_text risk ++ state_end confirmed
 
--- by these ids; it is confirmed if the risk is at most limit millionths
+-- the line of a claim by these ids; the claim is confirmed if the risk is at most limit millionths
 abbrev pub line_of : List Id → ℕ → Claim → Counts → ℕ → List ℕ
 line_of ids limit claim counts risk =
     claim_line (assertion_text ids claim.assertion) claim.margin counts risk
@@ -40,13 +40,13 @@ winner_lines records winner margin =
     codes "records " ++ decimal records ++ codes "\nwinner " ++ winner ++ codes "\nmargin "
     ++ decimal margin ++ codes "\n"
 
--- with its winner and the claims
+-- the lines of a contest with its winner and the claims
 abbrev pub audited_lines : ℕ → Content → List Counts → List ℕ → List ℕ
 audited_lines limit file counts risks =
     winner_lines file.records (id_of file.candidates file.winner) file.margin
     ++ claim_lines (line_of file.candidates limit) file.claims counts risks
 
--- how it ends: with its winner and the claims, or as a search that has no certificate
+-- how a contest ends: with its winner and the claims, or like a search that has no certificate
 abbrev pub end_lines : ℕ → BallotFile → ContestEnd → List ℕ
 end_lines limit ballots (Tied round tied tally) = tie_text ballots.candidates round tied tally
 end_lines limit ballots (Spent last order margin) =
@@ -83,7 +83,7 @@ contests_table limit list ends = blocks limit list ends ++ last_line (all_signed
 
 -- ---- what can be printed
 
--- it is of the contest's candidates, or has counts and a risk for each claim
+-- the end is of the contest's candidates, or has counts and a risk for each claim
 abbrev pub CanBeTold : BallotFile → ContestEnd → Type 0
 CanBeTold ballots (Tied round tied tally) = ⊤
 CanBeTold ballots (Spent last order margin) =

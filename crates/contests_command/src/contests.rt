@@ -51,7 +51,7 @@ pub fn answer<R: AllocGlobal + Threads + Sync, D: Desk, G: Gate + Sync>(
     after_ballots(rt, desk, task, &list, gate)
 }
 
-// The manifest is read.
+// Reads the manifest.
 fn after_ballots<R: AllocGlobal + Threads + Sync, D: Desk, G: Gate + Sync>(
     rt: &R,
     desk: &mut D,
@@ -75,7 +75,7 @@ fn after_ballots<R: AllocGlobal + Threads + Sync, D: Desk, G: Gate + Sync>(
     after_manifest(rt, desk, task, list, &batches, gate)
 }
 
-// What is seen of the cards is read.
+// Reads what is seen of the cards.
 fn after_manifest<R: AllocGlobal + Threads + Sync, D: Desk, G: Gate + Sync>(
     rt: &R,
     desk: &mut D,
@@ -100,7 +100,7 @@ fn after_manifest<R: AllocGlobal + Threads + Sync, D: Desk, G: Gate + Sync>(
     audit(rt, task, list, batches, &seen, gate)
 }
 
-// What is seen for each contest in the bytes of the file with this name, or the rule that refuses them.
+// What the bytes of the file with this name say is seen for each contest, or the rule that refuses them.
 fn seen_by_in(
     alloc: Global,
     file: &FileName,

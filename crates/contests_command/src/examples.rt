@@ -1,10 +1,10 @@
-//! Worked examples: what is printed of contests without a winner, computed by the checker.
+//! Worked examples: what is printed for contests without a winner, computed by the checker.
 ghost use Rattle.std.specs.Prelude.{◌≡◌, ◌∷◌, ◌++◌, [], codes};
 ghost use Rattle.contest_set.specs.declared.end.ContestEnd.TheVariants.{Spent, Tied};
 ghost use Rattle.contests_command.specs.Examples as examples;
 ghost use Rattle.contests_command.specs.Table.{contests_table};
 
-/// A contest that is tied, and one whose budget is spent.
+/// A contest that is tied, and one whose budget ran out.
 pub fn two_contests()
     ensures { contests_table 50000
         (examples.of_two_candidates (codes "7") ∷ examples.of_two_candidates (codes "8") ∷ [])

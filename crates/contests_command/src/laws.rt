@@ -2,12 +2,12 @@
 ghost use Rattle.contests_command.specs.Alone.{SaidAlone};
 ghost use Rattle.contests_command.specs.Laws.{AuditsOnce, EnoughNodes};
 
-/// What a ballot file says of a contest, its records say without those of all other contests, but for the places of the ballots.
+/// What a ballot file says of a contest, its records also say without those of all other contests, except for the places of the ballots.
 pub fn said_alone()
     ensures { SaidAlone }
 {}
 
-/// If the nodes are enough for a contest, its budget isn't spent.
+/// If the nodes are enough for a contest, its budget doesn't run out.
 pub fn enough_nodes()
     ensures { EnoughNodes }
 {}

@@ -238,8 +238,8 @@ fn add_last(text: &mut String, all: bool) -> Result<(), AllocError>
     writeln!(text, "all {answer}")
 }
 
-/// The lines of an audit of all contests, at a limit in millionths: for each contest its id, how it ends and whether it is signed off,
-/// and then whether all are. Every line ends with a line feed.
+/// The lines of an audit of all contests, at a limit in millionths. They have the id of each contest, how it ends and whether it is signed
+/// off, and then whether all contests are signed off. Every line ends with a line feed.
 pub fn contests_table(
     alloc: Global,
     list: &[Ballots],

@@ -1,4 +1,4 @@
--- What is found of a file, as the answer.
+-- The findings in a file, as the answer.
 use Rattle.std.proofs.Common.{◌≡◌, ℕ, true, length, Ok, Err, IfOk, IfErr, MatchBool, sym, subst}
 use Rattle.budget.specs.declared.budget.Budget.{Budget}
 use Rattle.ballots.specs.Ballots.{BallotFile}
@@ -10,7 +10,7 @@ use Rattle.cover_checker.specs.declared.checked.Checked.TheVariants.{OtherContes
 use Rattle.cover_checker.specs.declared.checked.CheckFault.{CheckFault}
 use Rattle.cover_checker.specs.declared.checked.CheckFault.TheVariants.{Spent, SpentSets, Memory}
 
--- where the file is about the contest
+-- if the file is about the contest
 module _ (budget : Budget) (ballots : BallotFile) (file : Content) (about : is_about ballots file ≡ true) where
   pub from_answer : (answer : Answer) → IsAnswer budget ballots file answer → Judges budget ballots file answer
   from_answer answer h = subst (λ b. MatchBool b (Judges budget ballots file answer) (answer ≡ Ok OtherContest)) about h
@@ -23,7 +23,7 @@ module _ (budget : Budget) (ballots : BallotFile) (file : Content) (about : is_a
   want-fault (SpentSets sets) h = absurd h
   want-fault Memory h = h
 
-  -- where there is a winner
+  -- if there is a winner
   module _ (n winner : ℕ) (e : n ≡ length ballots.candidates) (won : IsWinner n ballots.rankings winner) where
     found_is : (answer : Answer) → first_found (findings budget ballots.rankings file winner) (Ok Accepted) ≡ answer → IsAnswer budget ballots file answer
     found_is answer h = judged answer (record { winner = winner; tabulated = subst (λ k. IsWinner k ballots.rankings winner) e won; answer_is = h })

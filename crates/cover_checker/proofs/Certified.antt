@@ -57,7 +57,7 @@ module _ (n winner : ℕ) (records : List (List ℕ)) (positive : 0 < best_margi
     go None e = refl
     go (Some order) e = absurd (stands_not_covers n winner (Nodes 0) listed order e (certificate_covers n winner records positive))
 
-  -- what counts is what is below the best margin
+  -- the suffixes that count are those below the best margin
   stands-below : (c : ℕ) (suffix : List ℕ) → c < n → c ≢ winner → Member suffix (parts_ending n c) →
       (stands listed suffix && true) ≡ nat_lt (low n records suffix) best
   stands-below c suffix below ne m =
@@ -104,7 +104,7 @@ module _ (ballots : BallotFile) (file : Content) (sound : IsSound file) (is : Is
   own_assertions : assertions_of file ≡ own
   own_assertions = ap (map assertion_in) is.claims ∙ assertions-claims ballots.rankings own
 
-  -- a claim is of one of the assertions
+  -- every claim is of one of the assertions
   from_own : (claim : Claim) → Member claim file.claims → (a : Assertion) × Member a own × (claim_of ballots.rankings a ≡ claim)
   from_own claim m = from_map (claim_of ballots.rankings) claim own (subst (Member claim) is.claims m)
 

@@ -1,4 +1,4 @@
--- Where the budget is enough.
+-- When the budget is enough.
 use Rattle.std.proofs.Common.{◌≡◌, ◌≢◌, ℕ, ◌-◌, ◌*◌, ◌^◌, ◌<◌, ◌≤◌, Bool, true, false, not, ◌&&◌, ◌==◌, nat_lt, if◌then◌else◌, List, length, count_by, Option, Some, None, option_map, Ok, Err, inl, inr, refl, sym, ap, arith, le_trans, lt-ltb, le-ltb, ltb-true, ltb-false, ne_eqb, ◌∙◌}
 use Rattle.std.proofs.lemmas.Bool.{cases_lt, not-true, not_from_false, eqb-false}
 use Rattle.std.proofs.lemmas.List.Filters.{length-filter_both}
@@ -86,7 +86,7 @@ module _ (n winner : ℕ) (list : List Assertion) where
   pub enough-verdict : (budget : Budget) → IsEnough budget n winner list → covered_is n winner list budget ≡ Ok (verdict_on (standing_order n winner list))
   enough-verdict budget enough = ap (λ o. or_spent o (verdict_on (standing_order n winner list))) (enough-none budget enough)
 
-  -- what is called covered is within the budget, and what covers within it is called so
+  -- if the list is called covered, the budget is enough; and a list that covers within the budget is called covered
   pub covered-enough : (budget : Budget) → covered_is n winner list budget ≡ Ok Covered → IsEnough budget n winner list
   covered-enough budget h = go (spent_by budget n winner list) refl h where
     go : (o : Option CoverFault) → spent_by budget n winner list ≡ o → or_spent o (verdict_on (standing_order n winner list)) ≡ Ok Covered →

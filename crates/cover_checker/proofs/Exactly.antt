@@ -1,4 +1,4 @@
--- A file is accepted exactly where it holds and the budget is enough.
+-- A file is accepted exactly if it holds and the budget is enough.
 use Rattle.std.proofs.Common.{◌≡◌, ◌↔◌, None, Ok, subst, sym}
 use Rattle.std.specs.Prelude.{IfSome}
 use Rattle.budget.specs.declared.budget.Budget.{Budget}

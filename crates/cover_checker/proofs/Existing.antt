@@ -1,4 +1,4 @@
--- Every file has an answer, and one that no budget spoils where there are budget enough.
+-- Every file has an answer, and if the budget is enough, one that no budget spoils.
 use Rattle.std.proofs.Common.{◌≡◌, ℕ, ◌+◌, ◌<◌, Bool, true, false, if◌then◌else◌, nat_lt, ◌==◌, List, [], ◌∷◌, length, Option, Some, None, Ok, Err, MatchBool, inl, inr, refl, sym, ap, subst, arith, ◌∙◌}
 use Rattle.std.specs.Prelude.{option_and_then}
 use Rattle.std.proofs.lemmas.Bool.{cases_Bool}
@@ -140,7 +140,7 @@ uncovered-never budget file enough fault h =
     go Covered k = cc
     go (Stands order) k = cc
 
--- ---- a budget that is enough is never spent
+-- ---- a budget that is enough never runs out
 module _ (budget : Budget) (ballots : BallotFile) (file : Content) (fault : CheckFault)
     (enough : IsEnough budget (candidate_count file) file.winner (assertions_of file)) where
   by_winner : (winner : ℕ) → checked_is budget ballots.rankings file winner ≡ Err fault → ⊥

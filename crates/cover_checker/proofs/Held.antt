@@ -1,4 +1,4 @@
--- A file is accepted exactly where it holds, and its margin is then the best.
+-- A file is accepted exactly if it holds, and its margin is then the best.
 use Rattle.std.proofs.Common.{◌≡◌, ◌↔◌, ℕ, ◌<◌, ◌≤◌, true, false, ◌==◌, List, [], ◌∷◌, length, map, Option, Some, None, Result, Ok, Err, All, Contains, MatchBool, refl, sym, ap, subst, arith, ◌∙◌, ne_eqb, inl, inr, ◌⊎◌}
 use Rattle.std.specs.Prelude.{IfSome}
 use Rattle.std.specs.List.{list_any}
@@ -43,9 +43,9 @@ margin_in claim = claim.margin
 abbrev pub assertion_in : Claim → Assertion
 assertion_in claim = claim.assertion
 
--- ---- what is found first
+-- ---- the first finding
 
--- where a file is accepted, nothing is found
+-- if a file is accepted, there is no finding
 from_accepted : (found : Option Answer) (more : List (Option Answer)) → NeverAccepts found → first_found (found ∷ more) (Ok Accepted) ≡ Ok Accepted →
     (found ≡ None) × (first_found more (Ok Accepted) ≡ Ok Accepted)
 from_accepted None more never h = (refl, h)
@@ -91,7 +91,7 @@ module _ (budget : Budget) (records : List (List ℕ)) (file : Content) (winner 
         draws = g.0;
       }
 
-  -- what is found after the margins are right
+  -- what is found when the margins are right
   to_cover : file.winner ≡ winner → All (HasItsMargin records) file.claims →
       first_found (findings budget records file winner) (Ok Accepted)
       ≡ first_found (uncovered budget file ∷ other_smallest file ∷ elected file ∷ harder records file ∷ other_draws file ∷ []) (Ok Accepted)
@@ -120,7 +120,7 @@ pub refuting_claim : (claims : List Claim) (order : List ℕ) (a : Assertion) �
     (claim : Claim) × Contains claims claim × (refutes claim.assertion order ≡ true)
 refuting_claim claims order a m r = let (claim, k, e) = from_map assertion_in a claims m in (claim, contains-from_member k, ap (λ a. refutes a order) e ∙ r)
 
--- ---- who stands last
+-- ---- who is last
 other-alternative : (n winner : ℕ) (order : List ℕ) → 0 < n → is_order n order ≡ true → elects order winner ≡ false → IsAlternative n winner order
 other-alternative n winner [] some h f = absurd (omega (arith, some, (order_facts n [] h).long))
 other-alternative n winner (x ∷ xs) some h f =
@@ -237,7 +237,7 @@ module _ (budget : Budget) (ballots : BallotFile) (file : Content) where
         answer_is = accepted-facts budget ballots.rankings file file.winner (held-facts ballots file budget h covered);
       })
 
-  -- where there is an answer, no budget was spent
+  -- if there is an answer, the budget didn't run out
   pub held-covered : (checked : Checked) → Holds ballots file → IsAnswer budget ballots file (Ok checked) →
       covered_is (candidate_count file) file.winner (assertions_of file) budget ≡ Ok Covered
   held-covered checked h answer =

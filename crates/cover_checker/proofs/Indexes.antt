@@ -26,7 +26,7 @@ bit_in a c h = eqb-true (bit_at a c) 1 h
 bit_out : (a c : ℕ) → has a c ≡ false → bit_at a c ≡ 0
 bit_out a c h = let ne = eqb-false (bit_at a c) 1 h in omega (arith, ne, bit_at-lt a c)
 
--- a set of candidates has them below ROOM
+-- the members of a set of candidates are below ROOM
 pub has-below : (a c : ℕ) → a < 2 ^ ROOM → has a c ≡ true → c < ROOM
 has-below a c fits h =
     let one : bit_at a c ≡ 1 = bit_in a c h in

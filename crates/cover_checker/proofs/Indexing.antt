@@ -1,4 +1,4 @@
--- What an index says once it has an assertion more, and what it answers.
+-- What an index says when an assertion is added, and what it answers.
 use Rattle.std.proofs.Common.{◌≡◌, inl, inr, ℕ, ◌<◌, ◌^◌, cond, Bool, true, false, not, ◌&&◌, ◌||◌, ◌==◌, List, [], ◌∷◌, ◌++◌, get_or, replicate, Result, Ok, Err, OnOk, refl, sym, ap, eq-eqb, eqb-true, ◌∙◌}
 use Rattle.std.specs.List.{list_any}
 use Rattle.std.proofs.lemmas.Bool.{cases_lt, and_parts, and_from, or_cases, or_left, or_right}
@@ -26,7 +26,7 @@ no-winners l = elim (cases_lt l ROOM) [ inl below ↦ get_or-replicate ROOM l 0 
 pub nobody-wins : (w l : ℕ) → has (get_or (replicate ROOM 0) l 0) w ≡ false
 nobody-wins w l = ap (λ x. has x w) (no-winners l) ∙ no-member w
 
--- ---- one more
+-- ---- one more assertion
 
 pub both-ok : {X Y A B C : Type 0} → (r : Result X Y) → OnOk r A → OnOk r B → (A → B → C) → OnOk r C
 both-ok (Ok x) a b f = f a b
@@ -71,7 +71,7 @@ module _ (list : List Assertion) (r : Refuting) (first set : ℕ) (fits : get_or
   abbrev refuting : Assertion → Bool
   refuting a = is_new a first set
 
-  -- an assertion of the list that is a NEB of somebody outside over the first candidate, or a NEN of this set, refutes
+  -- an assertion of the list refutes if it is a NEB of somebody outside over the first candidate, or a NEN of this set
   from-neb : (w : ℕ) (a : Assertion) → is_neb w first a ≡ true → not (has set w) ≡ true → is_new a first set ≡ true
   from-neb w (Neb v l) e out =
       let (here, other) = and_parts (l == first) (v == w) e in

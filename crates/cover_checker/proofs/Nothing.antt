@@ -1,4 +1,4 @@
--- When nothing is found.
+-- What holds if there is no finding.
 use Rattle.std.proofs.Common.{◌≡◌, ℕ, ◌+◌, ◌-◌, ◌≤◌, Bool, true, false, ◌==◌, nat_lt, if◌then◌else◌, List, [], ◌∷◌, ◌++◌, length, slice_index, map, Option, Some, None, Result, Ok, Err, All, pos, refl, sym, ap, ap₂, arith, ◌∙◌, ltb-true, ltb-false, le-ltb, eqb-true, eq-eqb, length-append}
 use Rattle.std.proofs.lemmas.Bool.{not-false, not_from_true}
 use Rattle.std.specs.Prelude.{IfSome, option_and_then}
@@ -20,7 +20,7 @@ use Rattle.cover_checker.specs.declared.cover.CoverFault.{CoverFault}
 use Rattle.cover_checker.specs.declared.cover.CoverFault.TheVariants.{Spent as CoverSpent, SpentSets as CoverSpentSets, Memory as CoverMemory}
 use Rattle.cover_checker.specs.declared.checked.Checked.TheVariants.{Accepted, OtherWinner, OtherMargin, NotLeast, NotAlternative, OtherDraws}
 
--- ---- what is found by a test
+-- ---- findings by a test
 unless-none : {X : Type 0} (b : Bool) (x : X) → (if b then None else Some x) ≡ None → b ≡ true
 unless-none true x h = refl
 unless-none false x h = cc
@@ -37,7 +37,7 @@ when-some : {X : Type 0} (b : Bool) (x y : X) → (if b then Some x else None) �
 when-some true x y h = cc
 when-some false x y h = cc
 
--- a finding never is that a file is accepted
+-- a finding is never that a file is accepted
 abbrev pub NeverAccepts : Option Answer → Type 0
 NeverAccepts found = found ≡ Some (Ok Accepted) → ⊥
 

@@ -1,4 +1,4 @@
--- The same value stands under each number.
+-- The same value is under each number.
 use Rattle.std.proofs.Common.{◌≡◌, inl, inr, ℕ, cond, Bool, true, false, List, length, get_or, replicate, refl, ap, subst, sym, ◌<◌, ◌≤◌, ◌∙◌}
 use Rattle.std.proofs.lemmas.Bool.{cases_lt}
 use Rattle.std.proofs.lemmas.List.{get_or-replicate, get_or_past, length-replicate}

@@ -1,4 +1,4 @@
--- What is answered of votes is answered of the ballots that they are of.
+-- What is answered for votes is answered for the ballots that they come from.
 use Rattle.std.proofs.Common.{◌≡◌, Bool, true, false, Ok}
 use Rattle.std.specs.Bool.{MatchBool}
 use Rattle.budget.specs.declared.budget.Budget.{Budget}

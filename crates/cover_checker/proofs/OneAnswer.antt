@@ -1,4 +1,4 @@
--- There is one answer to a file.
+-- A file has only one answer.
 use Rattle.std.proofs.Common.{◌≡◌, ℕ, Bool, true, false, List, Ok, length, MatchBool, sym, ap, ◌∙◌}
 use Rattle.irv_base.proofs.Tabulated.{tabulated_is_one}
 use Rattle.irv_base.proofs.Decided.{elects-same}

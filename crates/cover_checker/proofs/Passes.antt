@@ -1,4 +1,4 @@
--- What refutes a set with one candidate more anew, by the index of a list.
+-- What newly refutes a set with one more candidate, by the index of a list.
 use Rattle.std.proofs.Common.{◌≡◌, ℕ, ◌+◌, ◌^◌, Bool, true, false, not, List, refl, sym, ap, arith, ◌∙◌}
 use Rattle.std.specs.List.{list_any}
 use Rattle.irv_base.specs.Candidates.{has, is_in, set_of}
@@ -21,7 +21,7 @@ passes-is list set c with_c e =
     ap (λ s. not (list_any (λ a. is_new a c s) list)) same
     ∙ ap not (any-same (λ a. is_new a c (more set c)) (λ a. is_anew a set c) list (λ a m. anew-is a set c))
 
--- one of them refutes a suffix with c in front anew, by an index: else the step passes
+-- by an index, an assertion newly refutes a suffix with c in front; otherwise the step passes
 pub goes-is : (n : ℕ) (list : List Assertion) (t : List ℕ) (c set with_c : ℕ) (any : Bool) → is_suffix n t ≡ true → is_in t c ≡ false → set ≡ set_of t →
     (has set c ≡ false → with_c ≡ set + 2 ^ c) → any ≡ list_any (λ a. is_new a c with_c) list → passes list (set_of t) c ≡ not any
 goes-is n list t c set with_c any proper out same number e =

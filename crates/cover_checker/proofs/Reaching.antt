@@ -1,4 +1,4 @@
--- What the checker's walk comes to.
+-- How the checker's walk ends.
 use Rattle.std.proofs.Common.{◌≡◌, ℕ, ◌+◌, ◌<◌, Bool, List, [], ◌++◌, Ok, Err, refl, sym, ap, subst, append_assoc, ◌∙◌}
 use Rattle.set_walk.specs.Dives.{Seen, dives, on_seen, walked}
 use Rattle.set_walk.specs.declared.walk.Stop.TheVariants.{Found as WalkFound, Spent as WalkSpent}
@@ -11,7 +11,7 @@ use Rattle.cover_checker.specs.declared.walk.SetWalk.TheVariants.{Ended}
 use Rattle.cover_checker.specs.declared.walk.Stop.{Stop}
 use Rattle.cover_checker.specs.declared.walk.Stop.TheVariants.{Found, Spent, Memory}
 
--- where a part stops, so does what goes on from it
+-- if a part stops, so does what continues from it
 pub stop-goes : (stop : Stop) (part all : Seen) (rest : List ℕ → Seen) → all ≡ on_seen part rest → IsStop part stop → IsStop all stop
 stop-goes (Found order) part all rest e h = e ∙ ap (λ r. on_seen r rest) h
 stop-goes Spent part all rest e h = e ∙ ap (λ r. on_seen r rest) h

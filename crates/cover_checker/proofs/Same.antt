@@ -1,4 +1,4 @@
--- Ids and lists of ids that are tested to be the same are so.
+-- Ids and lists of ids that the test finds to be the same are the same.
 use Rattle.std.proofs.Common.{◌≡◌, true, List, ◌&&◌, ◌==◌, length, refl, eqb-true, eq-eqb}
 use Rattle.std.proofs.lemmas.Bool.{and_parts, and_from}
 use Rattle.std.proofs.lemmas.Bool.Decides.{Decides-eqb}

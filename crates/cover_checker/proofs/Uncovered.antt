@@ -1,4 +1,4 @@
--- What `covered` answers for the claims of a file, as what is found.
+-- What `covered` answers for the claims of a file, as a finding.
 use Rattle.std.proofs.Common.{◌≡◌, ◌≢◌, ℕ, List, Option, Result, Ok, Err, sym, ap, ◌∙◌}
 use Rattle.budget.specs.declared.budget.Budget.{Budget}
 use Rattle.assertions.specs.declared.assertion.Assertion.{Assertion}
@@ -15,7 +15,7 @@ done verdict = Ok verdict
 abbrev failed : CoverFault → Result Verdict CoverFault
 failed fault = Err fault
 
--- where these are the number of candidates, the winner and the assertions of the file
+-- if these are the file's number of candidates, winner and assertions
 module _ (budget : Budget) (file : Content) (n winner : ℕ) (list : List Assertion) (number : n ≡ candidate_count file) (same : winner ≡ file.winner)
     (listed : list ≡ assertions_of file) where
   covered-same : covered_is n winner list budget ≡ covered_is (candidate_count file) file.winner (assertions_of file) budget

@@ -122,13 +122,13 @@ told-is n winner sets list =
     go true o = refl
     go false o = refl
 
--- where the walk comes to its end
+-- if the walk comes to its end
 pub ended-is : (n winner sets : ℕ) (list : List Assertion) (end : SetWalk) → IsReach n winner sets (passes list) (Ok end) →
     Ok (verdict_at end) ≡ covered_is n winner list (Sets sets)
 ended-is n winner sets list (Found order) walk = sym (ap (told sets) walk) ∙ told-is n winner sets list
 ended-is n winner sets list (Ended reached) walk = sym (ap (told sets) walk.0) ∙ told-is n winner sets list
 
--- and where it doesn't
+-- if it doesn't
 pub fault-is : (n winner sets : ℕ) (list : List Assertion) (fault : CoverFault) → IsReach n winner sets (passes list) (Err fault) → fault ≢ Memory →
     Err fault ≡ covered_is n winner list (Sets sets)
 fault-is n winner sets list (Spent last) walk other = absurd walk

@@ -20,26 +20,27 @@ use Rattle.assertions.specs.Refutation.{refutes}
 abbrev pub stands : List Assertion → List ℕ → Bool
 stands list suffix = not (list_any (λ a. refutes a suffix) list)
 
--- the alternative order that no assertion refutes and that is the least when read backwards
+-- the least alternative order, read backwards, that no assertion refutes
 abbrev pub standing_order : ℕ → ℕ → List Assertion → Option (List ℕ)
 standing_order n winner list = find (stands list) (alternative_orders n winner)
 
--- the suffixes that count for c: they end in it, aren't whole orders, no assertion refutes them, and they come before that order, if there is one
+-- the number of suffixes that count for c: they end in c, aren't whole orders, no assertion refutes them, and they come before the standing
+-- order, if there is one
 abbrev pub standing_count : ℕ → ℕ → List Assertion → ℕ → ℕ
 standing_count n winner list c =
     count_by (λ suffix. stands list suffix && is_passed (standing_order n winner list) suffix)
     (parts_ending n c)
 
--- the least alternative winner for whom more than nodes count
+-- the lowest-numbered alternative winner for whom more suffixes than nodes count
 abbrev pub first_over : ℕ → ℕ → List Assertion → ℕ → Option ℕ
 first_over n winner list nodes =
     find (λ c. nat_lt nodes (standing_count n winner list c)) (all_but n winner)
 
--- how many sets count: those of suffixes that count for an alternative winner
+-- the number of sets that count: those of suffixes that count for an alternative winner
 abbrev pub standing_sets : ℕ → ℕ → List Assertion → ℕ
 standing_sets n winner list = length (counted n winner (passes list))
 
--- the fault of a budget that is spent
+-- the fault of a budget that runs out
 abbrev pub spent_by : Budget → ℕ → ℕ → List Assertion → Option CoverFault
 spent_by (Nodes nodes) n winner list = option_map Spent (first_over n winner list nodes)
 spent_by (Sets sets) n winner list =
@@ -57,19 +58,19 @@ abbrev pub covered_is : ℕ → ℕ → List Assertion → Budget → Result Ver
 covered_is n winner list budget =
     or_spent (spent_by budget n winner list) (verdict_on (standing_order n winner list))
 
--- no candidate is over the nodes, or no more sets count than there are
+-- no candidate needs more than the nodes, or no more sets count than there are
 abbrev pub IsEnough : Budget → ℕ → ℕ → List Assertion → Type 0
 IsEnough (Nodes nodes) n winner list =
     (c : ℕ) → c < n → c ≢ winner → standing_count n winner list c ≤ nodes
 IsEnough (Sets sets) n winner list = standing_sets n winner list ≤ sets
 
--- so much is enough for n candidates, whatever the assertions
+-- this budget is enough for n candidates, whatever the assertions
 abbrev pub IsEnoughFor : ℕ → Budget → Type 0
 IsEnoughFor n (Nodes nodes) = 2 * factorial (n - 1) ≤ nodes
 IsEnoughFor n (Sets sets) = 2 ^ n - 3 ≤ sets
 
--- this much is enough to find the claims of the certificate: for each candidate the suffixes, or in all the sets, that are reached below
--- its margin
+-- this budget is enough to find the claims of the certificate: it has the suffixes for each candidate, or the sets in total, that are
+-- reached below its margin
 abbrev pub IsEnoughBelow : Budget → ℕ → ℕ → List (List ℕ) → ℕ → Type 0
 IsEnoughBelow (Nodes nodes) n winner records margin =
     (c : ℕ) → c < n → c ≢ winner → cover_count n (low n records) margin c ≤ nodes

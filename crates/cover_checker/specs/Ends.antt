@@ -1,4 +1,4 @@
--- The verdict if a walk from set to set comes to its end.
+-- The verdict of a walk from set to set that comes to its end.
 use Rattle.cover_checker.specs.declared.walk.SetWalk.{SetWalk}
 use Rattle.cover_checker.specs.declared.walk.SetWalk.TheVariants.{Found, Ended}
 use Rattle.cover_checker.specs.declared.cover.Verdict.{Verdict}

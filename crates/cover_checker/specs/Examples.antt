@@ -1,4 +1,4 @@
--- The worked examples of a file with a plan.
+-- Worked examples of a file with a plan.
 use Rattle.std.specs.Prelude.{ℕ, List, [], ◌∷◌, Option, Some, replicate}
 use Rattle.assertion_file.specs.Content.{Content}
 use Rattle.assertion_file.specs.Examples as files
@@ -7,7 +7,7 @@ use Rattle.assertion_file.specs.Examples as files
 abbrev pub five_ballots : List (List ℕ)
 five_ballots = replicate 5 (0 ∷ [])
 
--- their certificate, with these draws planned for five cards
+-- the certificate of these ballots, with these draws planned for five cards
 abbrev pub planning : Option ℕ → Content
 planning draws =
     record files.planned {

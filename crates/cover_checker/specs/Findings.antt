@@ -31,7 +31,7 @@ Answer = Result Checked CheckFault
 abbrev pub are_same : List Id → List Id → Bool
 are_same ids others = pointwise is_same ids others
 
--- the file is about the contest of the ballots: its id, its candidates, and how many records it has
+-- the file is about the contest of the ballots: it has the same id, candidates, and number of records
 abbrev pub is_about : BallotFile → Content → Bool
 is_about ballots file =
     is_same file.contest ballots.contest && are_same file.candidates ballots.candidates
@@ -44,11 +44,11 @@ other_winner winner file = if file.winner == winner then None else Some (Ok (Oth
 
 -- ---- the claims
 
--- the margin over the records is another one
+-- the margin over the records is different
 abbrev pub has_other_margin : List (List ℕ) → Claim → Bool
 has_other_margin records claim = not (int_eq (pos claim.margin) (margin records claim.assertion))
 
--- the first such claim, if the claims are counted from this number on
+-- the first claim with a different margin, if the claims are counted from this number on
 abbrev pub other_margin_from : List (List ℕ) → ℕ → List Claim → Option Answer
 other_margin_from records at [] = None
 other_margin_from records at (claim ∷ claims) =
@@ -84,14 +84,14 @@ other_smallest file =
     if smallest_margin file == file.margin then None
     else Some (Ok (NotLeast (smallest_margin file)))
 
--- the winner is last
+-- this candidate is last in the order
 abbrev pub elects : List ℕ → ℕ → Bool
 elects order c = slice_index order (length order - 1) == c
 
 abbrev pub elected_by : Content → List ℕ → Option Answer
 elected_by file order = if elects order file.winner then Some (Ok NotAlternative) else None
 
--- by its order, if it has one
+-- whether the file's order, if it has one, elects the winner
 abbrev pub elected : Content → Option Answer
 elected file = option_and_then (elected_by file) file.order
 
@@ -99,14 +99,14 @@ abbrev pub refuted_by : ℕ → Option Assertion → Option Answer
 refuted_by margin None = None
 refuted_by margin (Some assertion) = Some (Ok (Harder assertion margin))
 
--- the assertion of the greatest margin that refutes the order, and the first of these, if that margin is above the file's
+-- the assertion with the largest margin that refutes the order, if that margin is above the file's; the first such assertion if several have it
 abbrev pub harder_than : List (List ℕ) → Content → List ℕ → Option Answer
 harder_than records file order =
     let hardness = low (candidate_count file) records order in
     if nat_lt file.margin hardness
     then refuted_by hardness (refuter (candidate_count file) records order) else None
 
--- of a margin without an order nothing is said
+-- nothing is said about the margin of a file without an order
 abbrev pub harder : List (List ℕ) → Content → Option Answer
 harder records file = option_and_then (harder_than records file) file.order
 
@@ -115,7 +115,7 @@ harder records file = option_and_then (harder_than records file) file.order
 abbrev pub are_same_draws : Option ℕ → Option ℕ → Bool
 are_same_draws draws others = option_eq ◌==◌ draws others
 
--- the first claim that has other draws than its clean ones, if the claims are counted from this number on
+-- the first claim whose planned draws aren't its clean draws, if the claims are counted from this number on
 abbrev pub other_draws_from : Plan → ℕ → List Claim → List (Option ℕ) → Option Answer
 other_draws_from plan at [] draws = None
 other_draws_from plan at (claim ∷ claims) [] = None
@@ -144,13 +144,13 @@ IsFindingOf found (Spent last) = found ≡ Some (Err (Spent last))
 IsFindingOf found (SpentSets sets) = found ≡ Some (Err (SpentSets sets))
 IsFindingOf found Memory = ⊤
 
--- the fault is want of memory
+-- the fault is running out of memory
 abbrev pub IsWant : CheckFault → Type 0
 IsWant (Spent last) = ⊥
 IsWant (SpentSets sets) = ⊥
 IsWant Memory = ⊤
 
--- what a fault of `covered` is to `check`
+-- the fault of `check` for a fault of `covered`
 abbrev pub as_check_fault : CoverFault → CheckFault
 as_check_fault (CoverSpent last) = Spent last
 as_check_fault (CoverSpentSets sets) = SpentSets sets

@@ -1,4 +1,4 @@
--- What it is for an assertion file to hold of some ballots, and to be their canonical certificate.
+-- What it means for an assertion file to hold of some ballots, and to be their canonical certificate.
 use Rattle.std.specs.Prelude.{◌≡◌, ◌≤◌, ℕ, List, length, All, Contains, pos, IfSome, IsTrue}
 use Rattle.assertions.specs.declared.assertion.Claim.{Claim}
 use Rattle.assertions.specs.Assertions.{margin}
@@ -11,7 +11,7 @@ use Rattle.assertion_file.specs.Content.{Content, candidate_count}
 use Rattle.cover_checker.specs.Draws.{HasCleanDraws}
 use Rattle.cover_checker.specs.Outcomes.{IsWinner}
 
--- the order elects another candidate, and no true assertion of larger margin than the file's refutes it
+-- the order elects another candidate, and no true assertion with a larger margin than the file's refutes it
 pub record IsHardest (ballots : BallotFile) (file : Content) (order : List ℕ) : Type 0 where
   pub alternative : IsAlternative (candidate_count file) file.winner order
   pub hardest : low (candidate_count file) ballots.rankings order ≤ file.margin
@@ -21,7 +21,7 @@ pub record Holds (ballots : BallotFile) (file : Content) : Type 0 where
   pub contest : file.contest ≡ ballots.contest
   pub candidates : file.candidates ≡ ballots.candidates
   pub records : file.records ≡ length ballots.rankings
-  -- whose tabulated order elects this one
+  -- the file's winner is the one that their tabulated order elects
   pub winner : IsWinner (candidate_count file) ballots.rankings file.winner
   -- each claim has its assertion's margin
   pub margins :
@@ -29,15 +29,15 @@ pub record Holds (ballots : BallotFile) (file : Content) : Type 0 where
   -- together the claims refute every elimination order that elects another candidate
   pub cover : (order : List ℕ) → IsAlternative (candidate_count file) file.winner order →
       (claim : Claim) × Contains file.claims claim × IsTrue (refutes claim.assertion order)
-  -- the margin is the smallest of theirs
+  -- the file's margin is the smallest of the claims'
   pub reached : (claim : Claim) × Contains file.claims claim × (claim.margin ≡ file.margin)
   pub smallest : All (λ claim. file.margin ≤ claim.margin) file.claims
-  -- no choice of assertions has a larger margin, by its order; a file without an order doesn't say so
+  -- no choice of assertions has a larger margin, as the file's order shows; a file without an order doesn't say so
   pub best : IfSome file.order (IsHardest ballots file)
-  -- the draws that it plans are the clean ones
+  -- the planned draws are the clean draws
   pub draws : HasCleanDraws file
 
--- what holds of a file that says nothing of a best margin: all of that but `best`
+-- what holds of a file that says nothing about a best margin: everything above except `best`
 pub record IsCover (ballots : BallotFile) (file : Content) : Type 0 where
   pub contest : file.contest ≡ ballots.contest
   pub candidates : file.candidates ≡ ballots.candidates
@@ -51,7 +51,7 @@ pub record IsCover (ballots : BallotFile) (file : Content) : Type 0 where
   pub smallest : All (λ claim. file.margin ≤ claim.margin) file.claims
   pub draws : HasCleanDraws file
 
--- the file says what the canonical certificate of the ballots does, and plans its clean draws if any
+-- the file says what the canonical certificate of the ballots says, and if it plans draws, they are its clean draws
 pub record IsCertificateOf (ballots : BallotFile) (file : Content) : Type 0 where
   pub contest : file.contest ≡ ballots.contest
   pub candidates : file.candidates ≡ ballots.candidates

@@ -7,7 +7,7 @@ use Rattle.assertions.specs.declared.assertion.Assertion.TheVariants.{Neb, Nen}
 use Rattle.cover_checker.specs.Numbered.{under}
 use Rattle.cover_checker.specs.declared.refuting.Refuting.{Refuting}
 
--- the assertion refutes a suffix of this first candidate and this set, if it doesn't refute its parent
+-- the assertion refutes a suffix with this first candidate and this set, if it doesn't refute its parent
 abbrev pub is_new : Assertion → ℕ → ℕ → Bool
 is_new (Neb w l) first set = (l == first) && not (has set w)
 is_new (Nen w l rest) first set = (w == first) && (set == rest)
@@ -21,7 +21,7 @@ abbrev pub is_neb : ℕ → ℕ → Assertion → Bool
 is_neb w l (Neb v k) = (k == l) && (v == w)
 is_neb w l (Nen v k rest) = false
 
--- the assertion is a NEN of this winner in this set; its loser has no part in what it refutes
+-- the assertion is a NEN of this winner in this set; its loser doesn't matter to what it refutes
 abbrev pub is_nen : ℕ → ℕ → Assertion → Bool
 is_nen w set (Neb v k) = false
 is_nen w set (Nen v k rest) = (rest == set) && (v == w)

@@ -1,4 +1,4 @@
--- What an answer of `covered` says of the list, and of elections; and what an answer of `check` says of the file.
+-- What an answer of `covered` says about the list and about elections, and what an answer of `check` says about the file.
 use Rattle.std.specs.Prelude.{◌≡◌, ◌↔◌, ◌⊎◌, ℕ, ◌-◌, ◌*◌, ◌^◌, ◌<◌, ◌≤◌, List, None, Ok, Err, IfSome, IsTrue}
 use Rattle.std.specs.List.{list_all}
 use Rattle.budget.specs.declared.budget.Budget.{Budget}
@@ -26,7 +26,7 @@ use Rattle.cover_checker.specs.declared.checked.CheckFault.TheVariants.{Spent}
 
 -- ==== covers
 
--- a list that is called covered proves the winner of all records of which it is true
+-- a list that is called covered proves the winner of all records for which it is true
 abbrev pub CoveredIsSound : Type 0
 CoveredIsSound =
     (n winner : ℕ) (budget : Budget) (list : List Assertion) → winner < n →
@@ -41,7 +41,7 @@ CoveredIffCovers =
     covered_is n winner list budget ≡ Ok verdict →
     ((verdict ≡ Covered) ↔ IsTrue (covers n winner list))
 
--- an order that stands elects another candidate, nothing refutes it, and it comes before each other such order, read backwards
+-- an order that stands elects another candidate, nothing refutes it, and it comes before every other such order when read backwards
 abbrev pub StandsIsLeast : Type 0
 StandsIsLeast =
     (n winner : ℕ) (budget : Budget) (list : List Assertion) (found : List ℕ) →
@@ -50,13 +50,13 @@ StandsIsLeast =
     × ((order : List ℕ) → IsAlternative n winner order → IsTrue (stands list order) →
     (found ≡ order) ⊎ IsTrue (comes_before found order))
 
--- the answer isn't about the nodes, if they are 2 * (n - 1)! or more
+-- the answer is never that the nodes ran out, if there are 2 * (n - 1)! or more
 abbrev pub CoveredIsNeverSpent : Type 0
 CoveredIsNeverSpent =
     (n winner nodes : ℕ) (list : List Assertion) (last : ℕ) → 2 * factorial (n - 1) ≤ nodes →
     covered_is n winner list (Nodes nodes) ≡ Err (CoverSpent last) → ⊥
 
--- nor about the sets, whatever number it gives, if they are 2^n - 3 or more
+-- nor is it that the sets ran out, whatever number it gives, if there are 2^n - 3 or more
 abbrev pub CoveredBySetsIsNeverSpent : Type 0
 CoveredBySetsIsNeverSpent =
     (n winner sets told : ℕ) (list : List Assertion) → winner < n → 1 < n → 2 ^ n - 3 ≤ sets →
@@ -70,7 +70,7 @@ AnswerIsOne =
     (budget : Budget) (ballots : BallotFile) (file : Content) (answer other : Answer) →
     IsAnswer budget ballots file answer → IsAnswer budget ballots file other → answer ≡ other
 
--- if no budget is spent, a file is accepted exactly if it holds
+-- if the budget doesn't run out, a file is accepted exactly if it holds
 abbrev pub AcceptedIffHolds : Type 0
 AcceptedIffHolds =
     (budget : Budget) (ballots : BallotFile) (file : Content) (checked : Checked) → IsSound file →
@@ -85,7 +85,8 @@ AcceptedExactly =
     ↔ (Holds ballots file
     × IsEnough budget (candidate_count file) file.winner (assertions_of file)))
 
--- a file without an order exactly if its claims are true by their margins and cover, its margin is the smallest, and the budget is enough
+-- a file without an order is accepted exactly if its claims are true by their margins and cover, its margin is the smallest, and the budget
+-- is enough
 abbrev pub CoverIsAccepted : Type 0
 CoverIsAccepted =
     (budget : Budget) (ballots : BallotFile) (file : Content) → IsSound file → file.order ≡ None →
@@ -113,21 +114,21 @@ AnswerExists =
     (budget : Budget) (ballots : BallotFile) (file : Content) → IsSound file →
     (answer : Answer) × IsAnswer budget ballots file answer
 
--- the answer isn't that the nodes are spent, if they are 2 * (n - 1)! or more
+-- the answer is never that the nodes ran out, if there are 2 * (n - 1)! or more
 abbrev pub AnswerIsNeverSpent : Type 0
 AnswerIsNeverSpent =
     (nodes : ℕ) (ballots : BallotFile) (file : Content) (last : ℕ) →
     2 * factorial (candidate_count file - 1) ≤ nodes →
     IsAnswer (Nodes nodes) ballots file (Err (Spent last)) → ⊥
 
--- nor a fault of any kind, if the budget is enough for this many candidates
+-- nor is it a fault of any kind, if the budget is enough for this number of candidates
 abbrev pub AnswerIsNeverFault : Type 0
 AnswerIsNeverFault =
     (budget : Budget) (ballots : BallotFile) (file : Content) (fault : CheckFault) → IsSound file →
     IsEnoughFor (candidate_count file) budget → IsAnswer budget ballots file (Err fault) → ⊥
 
 -- the margin of an accepted file with an order is the best: no claims that are true of the records and refute the same orders have a larger
--- one
+-- margin
 abbrev pub AcceptedMarginIsBest : Type 0
 AcceptedMarginIsBest =
     (budget : Budget) (ballots : BallotFile) (file : Content) → IsSound file →
@@ -135,7 +136,7 @@ AcceptedMarginIsBest =
     file.margin
     ≡ best_margin (candidate_count file) file.winner (low (candidate_count file) ballots.rankings))
 
--- that of any accepted file is at most the best
+-- the margin of any accepted file is at most the best
 abbrev pub AcceptedMarginIsReached : Type 0
 AcceptedMarginIsReached =
     (budget : Budget) (ballots : BallotFile) (file : Content) → IsSound file →
@@ -143,14 +144,14 @@ AcceptedMarginIsReached =
     file.margin
     ≤ best_margin (candidate_count file) file.winner (low (candidate_count file) ballots.rankings)
 
--- an accepted file is accepted without its order, too
+-- an accepted file is also accepted without its order
 abbrev pub AcceptedWithoutOrder : Type 0
 AcceptedWithoutOrder =
     (budget : Budget) (ballots : BallotFile) (file : Content) → IsSound file →
     IsAnswer budget ballots file (Ok Accepted) →
     IsAnswer budget ballots (record file { order = None }) (Ok Accepted)
 
--- the canonical certificate is accepted within the nodes, or the sets, that it took to find its claims
+-- the canonical certificate is accepted within the nodes or sets that it took to find its claims
 abbrev pub CertificateIsAccepted : Type 0
 CertificateIsAccepted =
     (budget : Budget) (ballots : BallotFile) (file : Content) → IsSound file →

@@ -1,4 +1,4 @@
--- What is under a number.
+-- The value under a number.
 use Rattle.std.specs.Prelude.{ℕ, nat_lt, if◌then◌else◌, get_or, length, unwrap_or}
 use Rattle.std.specs.BTreeMap.{get}
 use Rattle.std.specs.Ordering.{nat_cmp}

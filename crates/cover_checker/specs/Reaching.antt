@@ -1,4 +1,4 @@
--- What a walk from set to set that the checker makes answers.
+-- What the checker's walk from set to set answers.
 use Rattle.std.specs.Prelude.{◌≡◌, ◌↔◌, ◌≤◌, ℕ, Bool, List, ◌++◌, length, Some, None, Result, Ok, Err, Contains, ⊤}
 use Rattle.set_walk.specs.Answers.{first_within}
 use Rattle.set_walk.specs.Dives.{Seen}
@@ -12,11 +12,11 @@ use Rattle.cover_checker.specs.declared.walk.SetWalk.TheVariants.{Found as EndFo
 use Rattle.cover_checker.specs.declared.walk.Stop.{Stop}
 use Rattle.cover_checker.specs.declared.walk.Stop.TheVariants.{Found, Spent, Memory}
 
--- more comes after what was there
+-- the new list is the old one with more after it
 abbrev pub Extends : List ℕ → List ℕ → Type 0
 Extends old new = (more : List ℕ) × (new ≡ old ++ more)
 
--- if the walk stops it does so for this; want of memory says nothing
+-- if the walk stops, it stops for this reason; running out of memory says nothing
 abbrev pub IsStop : Seen → Stop → Type 0
 IsStop seen (Found order) = seen ≡ Err (WalkFound order)
 IsStop seen Spent = seen ≡ Err WalkSpent
@@ -27,7 +27,7 @@ stopped sets (Found order) = Ok (EndFound order)
 stopped sets Spent = Err (SpentSets sets)
 stopped sets Memory = Err CoverMemory
 
--- the first order that stands, if no more sets count than the budget has; otherwise the sets that are reached; want of memory says
+-- the first order that stands, if no more sets count than the budget has; otherwise the sets that are reached; running out of memory says
 -- nothing
 abbrev pub IsReach : ℕ → ℕ → ℕ → (ℕ → ℕ → Bool) → Result SetWalk CoverFault → Type 0
 IsReach n winner sets goes (Ok (EndFound order)) = first_within n winner sets goes ≡ Ok (Some order)

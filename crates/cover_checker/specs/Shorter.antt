@@ -1,4 +1,4 @@
--- What no assertion refutes, none refutes without its first candidate: the walk asks for this fact of its test.
+-- A suffix that no assertion refutes isn't refuted without its first candidate either. The walk needs this fact about its test.
 use Rattle.std.specs.Prelude.{◌≡◌, ℕ, true, not, nat_lt, List, ◌∷◌}
 use Rattle.std.specs.List.{list_any, list_all}
 use Rattle.std.proofs.lemmas.Bool.{and_parts, both_ways, not-true, not_from_false, false_from_ne_true}

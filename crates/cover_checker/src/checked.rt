@@ -9,26 +9,26 @@ use irv_base::{Candidate, Memory, Order};
 use std::error::Error;
 use std::fmt;
 
-/// Whether an assertion file holds of some ballots. If it doesn't, the first that is found in this order.
+/// Whether an assertion file holds of some ballots. If it doesn't, the answer is the first finding in this order.
 #[derive(Clone, Copy)]
 pub enum Checked {
     /// It is about another contest: another id, other candidates, or another number of records.
     OtherContest,
     /// The winner of the contest is this one.
     OtherWinner(Candidate),
-    /// The claim with this number, from 1, is the first whose margin isn't that of its assertion, which is `found`, in votes.
+    /// The claim with this number, counted from 1, is the first whose margin isn't its assertion's. That margin is `found`, in votes.
     OtherMargin { index: u64, found: i64 },
-    /// The claims don't refute this order, which elects another candidate: the least of these, all read backwards.
+    /// The claims don't refute this order, which elects another candidate. It is the least of these orders when all are read backwards.
     Stands(Order),
-    /// The smallest margin of the claims isn't the file's, but `found`.
+    /// The smallest margin of the claims is `found`, not the file's.
     NotLeast { found: u32 },
     /// The file has an order, and it elects the winner.
     NotAlternative,
-    /// An assertion whose margin is above the file's refutes the file's order. It is the one of the largest margin, and the
-    /// first of these in the fixed order.
+    /// An assertion whose margin is above the file's refutes the file's order. Of these assertions it has the largest margin; if several do,
+    /// it is the first of them in the fixed order.
     Harder { assertion: Assertion, margin: u32 },
-    /// The claim with this number, from 1, is the first whose planned draws aren't its clean draws, which are `found`: `None` if it takes
-    /// a full count.
+    /// The claim with this number, counted from 1, is the first whose planned draws aren't its clean draws. Its clean draws are `found`,
+    /// which is `None` if it takes a full count.
     OtherDraws { index: u64, found: Option<u32> },
     /// It holds.
     Accepted,
@@ -37,12 +37,12 @@ pub enum Checked {
 /// Why it isn't known whether an assertion file holds.
 #[derive(Clone, Copy, Debug)]
 pub enum CheckFault {
-    /// Of the candidates who didn't win, the least for whom the budget of nodes isn't enough to find whether the claims refute all
-    /// orders.
+    /// The budget of nodes isn't enough to find whether the claims refute all orders. This is the lowest-numbered candidate for whom it
+    /// isn't, among those who didn't win.
     Spent { last: Candidate },
     /// A budget of this many sets isn't enough to find whether the claims refute all orders.
     SpentSets { sets: u32 },
-    /// Memory could not be had.
+    /// Memory could not be allocated.
     Memory,
 }
 

@@ -18,7 +18,7 @@ use irv_tabulator::{TabFault, tabulate};
 use set_tallies::Tallies;
 use std::alloc::Global;
 
-/// The winner of the tallies' contest: the last candidate of its tabulated order. The error is want of memory.
+/// Returns the winner of the tallies' contest: the last candidate of its tabulated order. The error is running out of memory.
 pub fn winner_of(alloc: Global, tallies: &mut Tallies<'_>) -> Result<Candidate, CheckFault>
     ensures winner { (records : List (List ℕ)) → IsOf tallies.old.bag records
         → IfOk result (IsWinner tallies.old.bag.n records) }
@@ -31,7 +31,7 @@ pub fn winner_of(alloc: Global, tallies: &mut Tallies<'_>) -> Result<Candidate, 
     }
 }
 
-// What is found first in a file about the tallies' contest, whose winner is this one.
+// The first finding in a file about the tallies' contest, whose winner is this one.
 fn judge(
     alloc: Global,
     tallies: &mut Tallies<'_>,
@@ -72,10 +72,10 @@ fn judge(
     Ok(Checked::Accepted)
 }
 
-/// Whether the file holds of the votes, whose tallies these are. If it doesn't, the answer is the first that is found, in the order of
-/// `Checked`; a budget is spent if `covered` says so for the claims. Claims that hold prove the winner, whatever ties the contest has.
+/// Checks whether the file holds of the votes, whose tallies these are. If it doesn't, the answer is the first finding in the order of
+/// `Checked`. The budget runs out if `covered` says so for the claims. Claims that hold prove the winner, whatever ties the contest has.
 ///
-/// The other error is want of memory.
+/// The other error is running out of memory.
 pub fn check(
     alloc: Global,
     votes: &Votes,

@@ -16,23 +16,23 @@ use std::error::Error;
 use std::fmt;
 use suffix_walk::first_within;
 
-/// What a list of assertions says of the alternative orders: those that elect another candidate than the winner.
+/// What a list of assertions says about the alternative orders, which elect a candidate other than the winner.
 #[derive(Clone, Copy)]
 pub enum Verdict {
-    /// Each of them is refuted.
+    /// Every alternative order is refuted.
     Covered,
-    /// The least of those that aren't, all read backwards.
+    /// The least alternative order that isn't refuted, when all are read backwards.
     Stands(Order),
 }
 
 /// Why there is no verdict.
 #[derive(Clone, Copy, Debug, PartialEq, Eq)]
 pub enum CoverFault {
-    /// The least alternative winner for whom more suffixes count than the budget has.
+    /// The lowest-numbered alternative winner for whom more suffixes count than the budget has nodes.
     Spent { last: Candidate },
-    /// More sets of candidates count than the budget has, which is this many.
+    /// More sets of candidates count than the budget has, which is this number.
     SpentSets { sets: u32 },
-    /// Memory could not be had.
+    /// Memory could not be allocated.
     Memory,
 }
 
@@ -62,8 +62,9 @@ impl From<Memory> for CoverFault {
     }
 }
 
-// Whether the assertions refute each alternative order: covered, or the first order that walks back from its last candidate through
-// suffixes that none of them refutes. Or the least candidate for whom more such suffixes count than there are nodes.
+// Whether the assertions refute each alternative order. If not, the answer is the first order that can be walked back from its last
+// candidate through suffixes that no assertion refutes. If there aren't enough nodes, it is the lowest-numbered candidate for whom more
+// suffixes like these count than there are nodes.
 fn by_nodes(list: Index<'_>, n: u32, winner: Candidate, nodes: u32) -> Result<Verdict, CoverFault>
     requires some { 1 ≤ n }
     requires room { n ≤ ROOM }
@@ -76,7 +77,7 @@ fn by_nodes(list: Index<'_>, n: u32, winner: Candidate, nodes: u32) -> Result<Ve
     }
 }
 
-// The verdict if a walk from set to set ends so.
+// The verdict of a walk from set to set that ends like this.
 fn verdict_of(end: &SetWalk) -> Verdict
     ensures { result ≡ verdict_at end.now }
 {
@@ -86,8 +87,8 @@ fn verdict_of(end: &SetWalk) -> Verdict
     }
 }
 
-// Whether the assertions refute each alternative order: covered, or the first order that walks from set to set without a step that one of
-// them refutes. Or, if more sets count than these, that the sets are spent.
+// Whether the assertions refute each alternative order. If not, the answer is the first order that can be walked from set to set without
+// a step that an assertion refutes. If more sets count than these, the answer is that the sets ran out.
 fn by_sets(
     alloc: Global,
     list: Index<'_>,
@@ -103,16 +104,16 @@ fn by_sets(
     Ok(verdict_of(&end))
 }
 
-/// Whether the assertions of the list refute each order of `n` candidates that elects another one than `winner`.
+/// Finds whether the assertions of the list refute each order of `n` candidates that elects a candidate other than `winner`.
 ///
-/// If they don't, the answer is the order that stands: the one that no assertion refutes and that is least when read backwards. A suffix
-/// counts for an alternative winner if it ends in that candidate, isn't a whole order, is refuted by no assertion, and comes before the
-/// order that stands, if there is one, both read backwards. A set counts if such a suffix has it. If more suffixes count for some
-/// alternative winner than the budget has nodes, the answer is `Spent` with the least of these; if more sets count than it has,
-/// `SpentSets`.
+/// If they don't, the answer is the order that stands: the least order, read backwards, that no assertion refutes. A suffix counts for an
+/// alternative winner if it ends in that candidate, isn't a whole order, is refuted by no assertion, and comes before the order that
+/// stands, if there is one, when both are read backwards. A set counts if it is the set of a suffix that counts. If more suffixes count
+/// for some alternative winner than the budget has nodes, the answer is `Spent` with the lowest-numbered of these winners. If more sets
+/// count than the budget has, the answer is `SpentSets`.
 ///
-/// The other error is want of memory. The list is gone through once. The time for each suffix or set that counts, and each of its
-/// children, doesn't grow with the list, whatever it says.
+/// The other error is running out of memory. The list is read once. The time for each suffix or set that counts, and for each of its
+/// children, doesn't grow with the list, whatever the list says.
 pub fn covered(
     alloc: Global,
     n: u32,

@@ -10,7 +10,7 @@ use crate::{Checked, CoverFault, Verdict};
 use assertions::Assertion;
 use budget::Budget;
 
-/// NEB(1,2), NEN(1,0,{0,1}) and NEN(2,0,{0,2}) prove the winner 1. Only the suffix 0 counts, and its set.
+/// NEB(1,2), NEN(1,0,{0,1}) and NEN(2,0,{0,2}) prove the winner 1. Only the suffix 0 and its set count.
 pub fn three_candidates()
     ensures covered { covered_is 3 1
         (Assertion.Neb 1 2 ∷ Assertion.Nen 1 0 3 ∷ Assertion.Nen 2 0 5 ∷ []) (Budget.Nodes 1)
@@ -26,7 +26,7 @@ pub fn three_candidates()
         ≡ Err (CoverFault.SpentSets 0) }
 {}
 
-/// Without its NEB the order 1,0,2 stands. The suffixes 2 and 0,2 count for its winner, and with the suffix 0 their sets are three.
+/// Without its NEB, the order 1,0,2 stands. The suffixes 2 and 0,2 count for its winner; with the suffix 0 there are three sets.
 pub fn without_neb()
     ensures stands { covered_is 3 1 (Assertion.Nen 1 0 3 ∷ Assertion.Nen 2 0 5 ∷ []) (Budget.Nodes 2)
         ≡ Ok (Verdict.Stands (1 ∷ 0 ∷ 2 ∷ [])) }
@@ -38,13 +38,13 @@ pub fn without_neb()
         ≡ Err (CoverFault.SpentSets 2) }
 {}
 
-/// If nothing is asserted, the order whose backward reading is least stands: 2,1,0.
+/// If nothing is asserted, the order that is least when read backwards stands: 2,1,0.
 pub fn nothing_asserted()
     ensures stands { covered_is 3 1 [] (Budget.Nodes 2) ≡ Ok (Verdict.Stands (2 ∷ 1 ∷ 0 ∷ [])) }
     ensures spent { covered_is 3 1 [] (Budget.Nodes 1) ≡ Err (CoverFault.Spent 0) }
 {}
 
-/// The certificate of three candidates is accepted within one node, or one set. Without its NEB the order 1,0,2 stands. The order 2,1,0
+/// The certificate of three candidates is accepted within one node or one set. Without its NEB, the order 1,0,2 stands. The order 2,1,0
 /// is refuted by more than the file's margin.
 pub fn certificate()
     ensures accepted { checked_is (Budget.Nodes 1) contests.three_candidates files.three_candidates 1
@@ -59,8 +59,8 @@ pub fn certificate()
         ≡ Ok (Checked.Harder (Assertion.Nen 1 0 3) 2) }
 {}
 
-/// Without an order the same claims are accepted. Without their NEB the same order stands, and a margin that isn't their smallest is
-/// another one.
+/// The same claims are accepted without an order. Without their NEB, the same order stands. A file whose margin isn't their smallest isn't
+/// accepted.
 pub fn covered()
     ensures accepted { checked_is (Budget.Nodes 1) contests.three_candidates files.covered 1
         ≡ Ok Checked.Accepted }
@@ -72,7 +72,7 @@ pub fn covered()
         ≡ Ok (Checked.NotLeast 1) }
 {}
 
-/// Five cards, whose ballots are all for the first of two candidates, take five clean draws: a file that plans four, or a full count,
+/// Five cards whose ballots are all for the first of two candidates take five clean draws. A file that plans four draws, or a full count,
 /// isn't accepted.
 pub fn planned()
     ensures accepted { checked_is (Budget.Nodes 1) own.five_ballots (own.planning (Some 5)) 0

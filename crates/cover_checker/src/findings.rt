@@ -22,7 +22,7 @@ use set_tallies::Tallies;
 use std::alloc::Global;
 use suffix_tree::{Tail, score};
 
-/// Whether the file is about the contest of the votes.
+/// Returns whether the file is about the contest of the votes.
 pub fn is_about(votes: &Votes, file: &AssertionFile) -> bool
     ensures { result ≡ is_about votes.now file.now }
 {
@@ -31,7 +31,7 @@ pub fn is_about(votes: &Votes, file: &AssertionFile) -> bool
         && file.records() == votes.records()
 }
 
-/// The winner of the contest, if the file has another one.
+/// Returns the winner of the contest if the file has another one.
 pub fn other_winner(winner: Candidate, file: &AssertionFile) -> Option<Checked>
     ensures { option_map Ok result ≡ other_winner winner file.now }
 {
@@ -42,7 +42,7 @@ pub fn other_winner(winner: Candidate, file: &AssertionFile) -> Option<Checked>
     }
 }
 
-/// The first of the claims, if there is one, whose margin isn't that of its assertion.
+/// Returns the first claim, if any, whose margin isn't its assertion's.
 pub fn other_margin(claims: &[Claim], tallies: &mut Tallies<'_>) -> Result<Option<Checked>, Memory>
     requires { All (λ claim. IsTrue (is_proper tallies.old.bag.n claim.assertion)) claims.now }
     ensures found { (records : List (List ℕ)) → IsOf tallies.old.bag records
@@ -77,7 +77,7 @@ fn standing(verdict: Verdict) -> Option<Checked>
     }
 }
 
-/// The order that the claims don't refute, if there is one, or the budget that isn't enough to find it.
+/// Returns the order that the claims don't refute, if there is one, or the budget that isn't enough to find it.
 pub fn uncovered(
     alloc: Global,
     file: &AssertionFile,
@@ -92,14 +92,14 @@ pub fn uncovered(
     Ok(standing(verdict))
 }
 
-/// The smallest margin of the claims, or 0 if there are none.
+/// Returns the smallest margin of the claims, or 0 if there are none.
 pub fn smallest_margin(claims: &[Claim]) -> u32
     ensures { result ≡ least (map (λ claim. claim.margin) claims.now) }
 {
     claims.iter().map(|claim| claim.margin).min().unwrap_or(0)
 }
 
-/// The smallest margin of the claims, if the file's is another one.
+/// Returns the smallest margin of the claims if the file has another one.
 pub fn other_smallest(file: &AssertionFile) -> Option<Checked>
     ensures { option_map Ok result ≡ other_smallest file.now }
 {
@@ -111,7 +111,7 @@ pub fn other_smallest(file: &AssertionFile) -> Option<Checked>
     }
 }
 
-/// The finding that the file's order elects the winner, if it has one that does.
+/// Returns the finding that the file's order elects the winner, if the file has an order that does.
 pub fn elected(file: &AssertionFile) -> Option<Checked>
     ensures { option_map Ok result ≡ elected file.now }
 {
@@ -131,7 +131,7 @@ fn tail_of(order: &Order) -> Tail
     Tail::of(order.len(), order.candidates())
 }
 
-// The assertion that refutes this order by more than the file's margin, if there is one.
+// The assertion, if any, that refutes this order by more than the file's margin.
 fn harder_than(
     file: &AssertionFile,
     order: &Order,
@@ -156,7 +156,7 @@ fn harder_than(
     }
 }
 
-/// The assertion that refutes the file's order by more than the file's margin, if there are both.
+/// Returns the assertion that refutes the file's order by more than the file's margin, if there are both.
 pub fn harder(file: &AssertionFile, tallies: &mut Tallies<'_>) -> Result<Option<Checked>, Memory>
     requires { candidate_count file.now ≡ tallies.old.bag.n }
     ensures found { (records : List (List ℕ)) → IsOf tallies.old.bag records
@@ -169,7 +169,7 @@ pub fn harder(file: &AssertionFile, tallies: &mut Tallies<'_>) -> Result<Option<
     }
 }
 
-// The clean draws of a claim, on the terms of the plan.
+// The clean draws of a claim under the plan's terms.
 fn clean_draws_of(plan: &PlanFacts, claim: &Claim) -> Option<u32>
     requires setting { IsSetting plan.now.cards claim.now.margin plan.now.gamma }
     requires limit { (1 ≤ plan.now.limit) × (plan.now.limit ≤ GREATEST_LIMIT) }
@@ -178,7 +178,7 @@ fn clean_draws_of(plan: &PlanFacts, claim: &Claim) -> Option<u32>
     clean_draws(plan.cards, claim.margin, plan.gamma, plan.limit)
 }
 
-// Whether these are the draws that are planned at this place.
+// Whether these draws are the ones planned at this index.
 fn are_planned(draws: Option<u32>, plan: &PlanFacts, at: usize) -> bool
     requires { at < length plan.now.draws }
     ensures { result ≡ are_same_draws draws (slice_index_or plan.now.draws at None) }
@@ -186,7 +186,7 @@ fn are_planned(draws: Option<u32>, plan: &PlanFacts, at: usize) -> bool
     draws == plan.draws[at]
 }
 
-// The first claim that has other draws in the plan than its clean ones.
+// The first claim whose planned draws aren't its clean draws.
 fn other_draws_in(plan: &PlanFacts, claims: &[Claim]) -> Option<Checked>
     requires each { length plan.now.draws ≡ length claims.now }
     requires settings { All (λ claim. IsSetting plan.now.cards claim.margin plan.now.gamma) claims.now }
@@ -205,7 +205,7 @@ fn other_draws_in(plan: &PlanFacts, claims: &[Claim]) -> Option<Checked>
     None
 }
 
-/// The first of the claims, if there is one, whose planned draws aren't its clean draws. A file without a plan has none.
+/// Returns the first claim, if any, whose planned draws aren't its clean draws. A file without a plan has no such claim.
 pub fn other_draws(file: &AssertionFile) -> Option<Checked>
     ensures { option_map Ok result ≡ other_draws file.now }
 {

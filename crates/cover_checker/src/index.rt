@@ -1,6 +1,6 @@
-// A list of assertions, found by what each refutes.
+// A list of assertions, indexed by what each refutes.
 //
-// It counts the assertions that refute the same, so that a trim can take one of them away.
+// The index counts the assertions that refute the same thing, so that a trim can remove one of them.
 ghost use Rattle.std.specs.Prelude.{◌≡◌, IfOk};
 ghost use Rattle.std.specs.List.{list_any};
 ghost use Rattle.cover_checker.specs.Indexed.{IsIndexOf, is_new};
@@ -11,10 +11,10 @@ use irv_base::{CandSet, Candidate, Memory};
 use std::alloc::Global;
 use std::marker::Model;
 
-/// A list of assertions that can be asked in constant time whether one of them refutes a suffix that it doesn't refute without its first
+/// A list of assertions that finds in constant time whether one of them refutes a suffix but doesn't refute it without its first
 /// candidate.
 ///
-/// To a contract it is the list.
+/// In a contract, it is the list.
 #[derive(Drop)]
 pub struct Index<'a> {
     list: &'a [Assertion],
@@ -34,8 +34,8 @@ impl<'a> Model for Index<'a> {
 }
 
 impl<'a> Index<'a> {
-    /// The index of a list, in a contest of `n` candidates. The time is linear in the list, but for sets of more than 20 candidates,
-    /// which are put in order.
+    /// Builds the index of a list in a contest of `n` candidates. The time is linear in the list, except for sets of more than 20 candidates,
+    /// which are sorted.
     pub fn of(alloc: Global, n: u32, list: &'a [Assertion]) -> Result<Index<'a>, Memory>
         ensures { IfOk result (λ index. index ≡ list.now) }
     {
@@ -46,14 +46,14 @@ impl<'a> Index<'a> {
         Ok(Index { list, refuting })
     }
 
-    /// What the assertions refute.
+    /// Returns what the assertions refute.
     pub fn refuting(&self) -> &Refuting
         ensures { IsIndexOf self.now result.now }
     {
         &self.refuting
     }
 
-    /// Whether one of the assertions refutes a suffix with this first candidate and this set, if none refutes its parent.
+    /// Returns whether one of the assertions refutes a suffix with this first candidate and this set, if none refutes its parent.
     pub fn is_any_new(&self, first: Candidate, set: CandSet) -> bool
         ensures { result ≡ list_any (λ a. is_new a first set) self.now }
     {

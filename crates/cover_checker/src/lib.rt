@@ -1,5 +1,5 @@
-//! The checker: whether a list of assertions refutes every order that elects another candidate, and whether an assertion file holds of
-//! some ballots.
+//! The checker. It finds whether a list of assertions refutes every order that elects another candidate, and whether an assertion file
+//! holds of some ballots.
 //!
 //! It uses no search. If you trust only the checker, you can trust a list that it calls covered and a file that it accepts.
 #![tactic(auto)]

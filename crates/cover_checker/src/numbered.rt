@@ -1,4 +1,4 @@
-// What is under a number.
+// Values stored under numbers.
 ghost use Rattle.std.specs.Prelude.{◌≡◌, ◌==◌, ℕ, OnOk, OnErr, if◌then◌else◌, length, replicate};
 ghost use Rattle.cover_checker.specs.Numbered.{under};
 
@@ -6,20 +6,20 @@ use irv_base::Memory;
 use std::alloc::Global;
 use std::collections::BTreeMap;
 
-/// Values under numbers. The numbers below a limit have theirs in a table, all others in order: no choice of numbers makes one slow to
-/// find.
+/// Values stored under numbers. Numbers below a limit use a table, and all others a sorted map, so no choice of numbers makes a value slow
+/// to find.
 #[derive(Drop)]
 pub struct Numbered<T> {
-    /// What is under the numbers below its length.
+    /// The values under the numbers below its length.
     pub near: Vec<T>,
-    /// What was put under greater ones.
+    /// The values that were put under larger numbers.
     pub far: BTreeMap<u32, T>,
-    /// What is under a number to which nothing was put.
+    /// The value under a number for which no value was put.
     pub none: T,
 }
 
 impl<T: Copy + Drop> Numbered<T> {
-    /// The value under each number, with this table of it.
+    /// Stores the same value under every number, with this table of it.
     pub fn all(alloc: Global, near: Vec<T>, none: T) -> Numbered<T>
         requires { near.items ≡ replicate (length near.items) none }
         ensures none { result.none ≡ none }
@@ -32,7 +32,7 @@ impl<T: Copy + Drop> Numbered<T> {
         }
     }
 
-    /// The value under this number.
+    /// Returns the value under this number.
     #[inline(always)]
     pub fn get(&self, number: u32) -> T
         ensures { result ≡ under self.now number }
@@ -61,7 +61,7 @@ impl<T: Copy + Drop> Numbered<T> {
         Ok(())
     }
 
-    /// Takes back what was put under this number.
+    /// Removes the value that was put under this number.
     pub fn forget(&mut self, number: u32)
         ensures none { self.new.none ≡ self.old.none }
         ensures forgotten { (other : ℕ) → under self.new other

@@ -1,4 +1,4 @@
-// Sets of candidates that a walk reached.
+// The sets of candidates that a walk reached.
 ghost use Rattle.std.specs.Prelude.{◌≡◌, ◌<◌, ◌-◌, ◌++◌, ◌∷◌, [], false, length, take, slice_get, Some, IfOk, OnOk, OnErr};
 ghost use Rattle.set_walk.specs.Dives.{is_seen};
 
@@ -8,13 +8,13 @@ use irv_base::{CandSet, Memory};
 use std::alloc::Global;
 use std::marker::Model;
 
-/// Sets of candidates in the order in which a walk reached them, each once.
+/// The sets of candidates that a walk reached, in the order in which it reached them, each once.
 ///
-/// To a contract it is the list of them.
+/// In a contract, it is the list of the sets.
 #[derive(Drop)]
 pub struct Reached {
     sets: Vec<CandSet>,
-    // Whether the set with a number is one of them.
+    // Whether the set with this number is one of them.
     marks: Numbered<bool>,
 }
 
@@ -30,7 +30,7 @@ impl Model for Reached {
 }
 
 impl Reached {
-    /// No sets, of a contest of `n` candidates.
+    /// Makes an empty list of sets for a contest of `n` candidates.
     pub fn none(alloc: Global, n: u32) -> Result<Reached, Memory>
         ensures { IfOk result (λ reached. reached ≡ []) }
     {
@@ -41,14 +41,14 @@ impl Reached {
         })
     }
 
-    /// How many there are.
+    /// Returns the number of sets.
     pub fn len(&self) -> usize
         ensures { result ≡ length self.now }
     {
         self.sets.len()
     }
 
-    /// The set with index `i`.
+    /// Returns the set with index `i`.
     pub fn at(&self, i: usize) -> CandSet
         requires { i < length self.now }
         ensures { slice_get self.now i ≡ Some result }
@@ -56,7 +56,7 @@ impl Reached {
         self.sets[i]
     }
 
-    /// Whether the set is one of them.
+    /// Returns whether the set is one of them.
     #[inline(always)]
     pub fn contains(&self, set: CandSet) -> bool
         ensures { result ≡ is_seen self.now set }
@@ -64,7 +64,7 @@ impl Reached {
         self.marks.get(set.number())
     }
 
-    /// Puts a new set last.
+    /// Appends a new set.
     pub fn push(&mut self, set: CandSet) -> Result<(), Memory>
         requires { is_seen self.old set ≡ false }
         ensures pushed { OnOk result (self.new ≡ self.old ++ set ∷ []) }
@@ -76,7 +76,7 @@ impl Reached {
         Ok(())
     }
 
-    // Takes the last set back.
+    // Removes the last set.
     fn pop(&mut self)
         ensures { self.new ≡ take (length self.old - 1) self.old }
     {
@@ -85,7 +85,7 @@ impl Reached {
         }
     }
 
-    /// Takes back all but this many first ones.
+    /// Keeps this many sets at the start and removes the rest.
     pub fn truncate(&mut self, len: usize)
         ensures { self.new ≡ take len self.old }
     {

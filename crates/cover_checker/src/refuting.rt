@@ -1,4 +1,4 @@
-// What a list of assertions refutes anew.
+// What a list of assertions newly refutes.
 ghost use Rattle.std.specs.Prelude.{◌≡◌, ◌<◌, ◌≤◌, ◌^◌, ◌==◌, ◌&&◌, ℕ, List, [], ◌∷◌, ◌++◌, if◌then◌else◌, get_or, IfOk, OnOk};
 ghost use Rattle.std.specs.List.{list_any};
 ghost use Rattle.irv_base.specs.Candidates.{has};
@@ -15,7 +15,7 @@ use std::alloc::Global;
 /// Contests of at most this many candidates have a table of all their sets.
 const MOST_IN_TABLE: u32 = 20;
 
-/// For each candidate the winners of the NEBs over it, and for each set the winners of the NENs of it.
+/// The winners of the NEBs over each candidate, and the winners of the NENs of each set.
 #[derive(Drop)]
 pub struct Refuting {
     /// The winners of the NEBs over each candidate.
@@ -24,7 +24,7 @@ pub struct Refuting {
     pub nens: Numbered<CandSet>,
 }
 
-/// How many numbers of sets of `n` candidates have a place in a table.
+/// Returns the number of sets of `n` candidates that have a place in a table.
 pub fn places(n: u32) -> usize {
     if n <= MOST_IN_TABLE { 1 << n } else { 0 }
 }
@@ -39,7 +39,7 @@ fn is_beaten(winners: &[CandSet; ROOM as usize], first: Candidate, set: CandSet)
     mask | other != other
 }
 
-// The set with the candidate, or without it.
+// The set with or without the candidate.
 fn changed(set: CandSet, c: Candidate, is_there: bool) -> CandSet
     ensures { (d : ℕ) → has result d ≡ (if c == d then is_there else has set d) }
 {
@@ -50,7 +50,7 @@ fn changed(set: CandSet, c: Candidate, is_there: bool) -> CandSet
     }
 }
 
-// Says whether there is a NEB.
+// Records whether there is a NEB.
 fn put_neb(winners: &mut [CandSet; ROOM as usize], w: Candidate, l: Candidate, is_there: bool)
     ensures { (v k : ℕ) → has (get_or winners.new k 0) v
         ≡ (if is_neb v k (Said.Neb w l) then is_there else has (get_or winners.old k 0) v) }
@@ -59,7 +59,7 @@ fn put_neb(winners: &mut [CandSet; ROOM as usize], w: Candidate, l: Candidate, i
     winners[place] = changed(winners[place], w, is_there);
 }
 
-// Says whether there is a NEN.
+// Records whether there is a NEN.
 fn put_nen(
     nens: &mut Numbered<CandSet>,
     w: Candidate,
@@ -74,7 +74,7 @@ fn put_nen(
 }
 
 impl Refuting {
-    /// What no assertion refutes, in a contest of `n` candidates.
+    /// Makes the index of no assertions in a contest of `n` candidates.
     pub fn nothing(alloc: Global, n: u32) -> Result<Refuting, Memory>
         ensures { IfOk result (IsIndexOf []) }
     {
@@ -85,7 +85,7 @@ impl Refuting {
         })
     }
 
-    /// Says whether there is an assertion that refutes the same as this one.
+    /// Records whether there is an assertion that refutes the same as this one.
     pub fn put(&mut self, a: &Assertion, is_there: bool) -> Result<(), Memory>
         ensures winners { OnOk result ((w l : ℕ) → has (get_or self.new.winners l 0) w
             ≡ (if is_neb w l a.now then is_there else has (get_or self.old.winners l 0) w)) }
@@ -101,7 +101,7 @@ impl Refuting {
         }
     }
 
-    /// One assertion more.
+    /// Adds an assertion.
     pub fn add(&mut self, a: &Assertion) -> Result<(), Memory>
         ensures { (before after : List Said) → IsIndexOf (before ++ after) self.old
             → OnOk result (IsIndexOf (before ++ a.now ∷ after) self.new) }
@@ -109,10 +109,9 @@ impl Refuting {
         self.put(a, true)
     }
 
-    /// Whether one of the assertions refutes a suffix with this first candidate and this set, if none refutes its parent.
+    /// Returns whether one of the assertions refutes a suffix with this first candidate and this set, if none refutes its parent.
     ///
-    /// The time doesn't grow with the list if the set is in the table; otherwise it grows by a step each time that the list is twice as
-    /// long.
+    /// If the set is in the table, the time doesn't grow with the list. Otherwise it grows by one step each time the list doubles.
     #[inline(always)]
     pub fn is_any_new(&self, first: Candidate, set: CandSet) -> bool
         ensures { (list : List Said) → IsIndexOf list self.now

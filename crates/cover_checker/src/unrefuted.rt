@@ -6,10 +6,10 @@ use crate::index::Index;
 use irv_base::Suffix;
 use suffix_walk::Keeps;
 
-/// The test that keeps what no assertion of the list refutes.
+/// A test that keeps the suffixes that no assertion of the list refutes.
 #[derive(Drop)]
 pub struct Unrefuted<'a> {
-    /// How many candidates the contest has.
+    /// The number of candidates in the contest.
     pub n: u32,
     /// The assertions.
     pub list: Index<'a>,

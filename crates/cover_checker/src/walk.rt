@@ -1,4 +1,4 @@
-// The walk into each set once that no assertion of a list keeps out.
+// A walk that enters each set that no assertion of a list keeps out, once.
 ghost use Rattle.std.specs.Prelude.{◌≡◌, ◌<◌, ◌≤◌, ◌-◌, List, Ok, length, IsTrue, OnOk, IfErr};
 ghost use Rattle.irv_base.specs.Suffixes.{is_suffix};
 ghost use Rattle.irv_base.specs.declared.limits.TheConstants.{ROOM};
@@ -18,20 +18,20 @@ use std::alloc::{AllocFailed, Global};
 /// How a walk ends.
 #[derive(Drop)]
 pub enum SetWalk {
-    /// With the least order, read backwards, that stands.
+    /// It found the least order, read backwards, that stands.
     Found(Order),
-    /// Without one. It reached these sets.
+    /// It found no order that stands. It reached these sets.
     Ended(Reached),
 }
 
-/// Why a walk stops on its way.
+/// Why a walk stops before it ends.
 #[derive(Clone, Copy)]
 pub enum Stop {
     /// A whole order stands.
     Found(Order),
-    /// There is a set more than the budget has.
+    /// There is one set more than the budget has.
     Spent,
-    /// Memory could not be had.
+    /// Memory could not be allocated.
     Memory,
 }
 
@@ -43,7 +43,7 @@ impl From<Memory> for Stop {
     }
 }
 
-/// Walks from the suffix into the sets that weren't reached.
+/// Walks from the suffix into the sets that haven't been reached.
 pub fn dive(
     refuting: &Refuting,
     n: u32,
@@ -83,7 +83,7 @@ pub fn dive(
     Ok(())
 }
 
-// What the walk comes to.
+// What a walk that stopped answers.
 fn stopped(stop: Stop, sets: u32) -> Result<SetWalk, CoverFault>
     ensures { result ≡ stopped sets stop }
 {
@@ -94,14 +94,15 @@ fn stopped(stop: Stop, sets: u32) -> Result<SetWalk, CoverFault>
     }
 }
 
-/// The walk of the suffixes of orders of `n` candidates that elect another one than `winner`, and that no assertion refutes: to the least
-/// order, read backwards, or through all sets that it reaches.
+/// Walks the suffixes that no assertion refutes, of orders of `n` candidates that elect a candidate other than `winner`. The walk ends at
+/// the least order, read backwards, or after all sets that it reaches.
 ///
-/// A set counts if a suffix of it stands that elects another candidate than the winner, isn't whole, and comes before that order, if
-/// there is one, both read backwards. If more than `sets` sets count, the answer is `SpentSets`. The other error is want of memory.
+/// A set counts if it has a suffix that stands, elects a candidate other than the winner, isn't whole, and comes before that order, if
+/// there is one, when both are read backwards. If more than `sets` sets count, the answer is `SpentSets`. The other error is running out
+/// of memory.
 ///
-/// Each set is walked into once: the time grows with the sets that count, and not with the suffixes. The recursion is as deep as there
-/// are candidates.
+/// Each set is entered once, so the time grows with the number of sets that count, not with the number of suffixes. The recursion goes
+/// as deep as the number of candidates.
 pub fn reach(
     alloc: Global,
     refuting: &Refuting,

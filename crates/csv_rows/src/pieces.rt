@@ -18,7 +18,7 @@ pub const MOST_AT_HAND: usize = 8 << 20;
 /// What is available of a text that comes in pieces: its whole lines, and the last line, which may still grow. Lines whose records have
 /// been read are passed, so a plain text need not be held whole.
 ///
-/// To a contract, it is these two.
+/// In a contract, it is these two.
 #[derive(Drop)]
 pub struct Pieces {
     lines: Vec<u8>,

@@ -10,7 +10,7 @@ use std::marker::Model;
 
 /// The lines of a plain text, which has neither a double quote nor a byte EF. None of the text is copied.
 ///
-/// To a contract, they are the list of their numbered records.
+/// In a contract, they are the list of their numbered records.
 #[derive(Drop)]
 pub struct PlainLines<'t> {
     text: &'t [u8],

@@ -13,7 +13,7 @@ use std::marker::Model;
 
 /// The numbered records of a plain text, each of which is a line.
 ///
-/// To a contract, this is the record that was read last, and the records that are still to be read.
+/// In a contract, this is the record that was read last, and the records that are still to be read.
 #[derive(Drop)]
 pub struct PlainRows<'t> {
     // The text from the start of the line that was read last, and the marks of that text.

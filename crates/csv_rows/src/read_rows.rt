@@ -12,7 +12,7 @@ use std::marker::Model;
 
 /// The numbered records of a text, each copied as it is read.
 ///
-/// To a contract, this is the record that was read last, and the records that are still to be read.
+/// In a contract, this is the record that was read last, and the records that are still to be read.
 #[derive(Drop)]
 pub struct ReadRows<'t> {
     rows: Rows<'t>,

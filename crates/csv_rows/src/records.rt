@@ -29,7 +29,7 @@ pub enum Source<'t> {
 /// The numbered records of a text, in order. If the text has neither a double quote nor a byte EF, they are read from its lines, and none
 /// of its bytes is copied; no clause says this.
 ///
-/// To a contract, this is the record that was read last, and the records that are still to be read.
+/// In a contract, this is the record that was read last, and the records that are still to be read.
 #[derive(Drop)]
 pub struct Records<'t> {
     source: Source<'t>,

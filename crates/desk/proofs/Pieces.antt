@@ -5,7 +5,7 @@ use Rattle.std.proofs.KnownBytes.{Consumes-trans}
 use Rattle.desk.specs.Reading.{TookAll}
 use Rattle.desk.specs.Taker.{TookMore}
 
--- one piece more
+-- one more piece
 pub one_piece_more : {T : Type 0} (sought : T → Option (List ℕ)) (has_taken : T → List ℕ → Type 0) (a b c : T) (whole left rest : Option (List ℕ)) (limit came n : ℕ) (piece : List ℕ)
     → TookAll sought has_taken a b (Consumes whole left) limit came → Consumes left rest piece → length piece ≡ n → came + n ≤ limit
     → TookMore sought has_taken b c piece → TookAll sought has_taken a c (Consumes whole rest) limit (came + n)

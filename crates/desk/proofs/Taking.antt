@@ -9,13 +9,13 @@ pub on_err : {T E P : Type 0} (r : Result T E) → P → OnErr r P
 on_err (Ok x) p = tt
 on_err (Err e) p = p
 
--- one piece more
+-- one more piece
 pub moved : (all done rest : List ℕ) (n : ℕ) → all ≡ done ++ rest → all ≡ (done ++ take n rest) ++ take (length rest - n) (drop n rest)
 moved all done rest n split =
     split ∙ ap (λ (l : List ℕ). done ++ l) (sym (take-append-drop n rest)) ∙ sym (append_assoc done (take n rest) (drop n rest))
     ∙ ap (λ (l : List ℕ). (done ++ take n rest) ++ l) (sym (take_rest rest n))
 
--- a write that fails ends it with a prefix
+-- a write that fails ends the text with a prefix
 pub cut_short : (a b c : Option (List ℕ)) (all done rest : List ℕ) → all ≡ done ++ rest → Appends a b done → Keeps b c
     → (n : ℕ) × (n ≤ length all) × Appends a c (take n all)
 cut_short a b c all done rest split so_far kept =

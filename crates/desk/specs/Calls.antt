@@ -1,9 +1,9 @@
--- Calls in memory, of which some are to fail.
+-- Calls in memory, some of which are to fail.
 use Rattle.std.specs.Prelude.{ℕ, List, Bool, ◌==◌, is_err, Result, if◌then◌else◌}
 use Rattle.std.specs.List.{list_any}
 use Rattle.desk.specs.Count.{one_more}
 
--- the call of this number is to fail
+-- the call with this number is to fail
 abbrev pub is_to_fail : List ℕ → ℕ → Bool
 is_to_fail fails number = list_any (λ n. n == number) fails
 

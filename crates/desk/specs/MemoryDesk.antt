@@ -6,12 +6,12 @@ use Rattle.desk.specs.declared.memory_desk.Named.{Named}
 use Rattle.desk.specs.declared.memory_desk.Place.{Place}
 
 pub record DeskView : Type 0 where
-  -- the first file of a name is the one held
+  -- the first file with a name is the one held
   pub files : List File
   -- whether a file is begun, and what is left of it
   pub begun : Bool
   pub left : List ℕ
-  -- the numbers of the calls that are to fail, and how many calls were made
+  -- the numbers of the calls that are to fail, and the number of calls made
   pub fails : List ℕ
   pub calls : ℕ
   pub faults : ℕ
@@ -23,7 +23,7 @@ file_of named = record { name = named.name; bytes = named.bytes.items }
 abbrev pub files_of : List Named → List File
 files_of files = map file_of files
 
--- what a file has from an offset on
+-- the bytes of a file from an offset on
 abbrev pub bytes_from : ℕ → Option Named → List ℕ
 bytes_from at None = []
 bytes_from at (Some named) = drop at named.bytes.items

@@ -3,9 +3,9 @@ use Rattle.std.specs.Prelude.{ℕ, List}
 
 pub record SinkView : Type 0 where
   pub taken : List ℕ
-  -- the most bytes that it takes
+  -- the maximum number of bytes that it takes
   pub room : ℕ
-  -- the numbers of the writes that are to fail, and how many writes were made
+  -- the numbers of the writes that are to fail, and the number of writes made
   pub fails : List ℕ
   pub writes : ℕ
   pub faults : ℕ

@@ -6,7 +6,7 @@ use Rattle.desk.specs.Count.{one_more}
 abbrev pub is_too_long : ℕ → Bool
 is_too_long bytes = nat_lt MOST_FILE_BYTES bytes
 
--- one more if a file that gave this many bytes before has given too many now
+-- one more if a file that hadn't given too many bytes before has given too many now
 abbrev pub passing : ℕ → ℕ → ℕ → ℕ
 passing before now count =
     if not (is_too_long before) && is_too_long now then one_more count else count

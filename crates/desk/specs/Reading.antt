@@ -6,7 +6,7 @@ use Rattle.desk.specs.Taker.{TookMore}
 use Rattle.desk.specs.declared.whole.DeskFault.{DeskFault}
 use Rattle.desk.specs.declared.whole.DeskFault.TheVariants.{Missing, ReadFault, TooLong, Memory}
 
--- why what is held under the name isn't given: nothing is held, or it is longer than the limit, or another reason
+-- why what is held under the name isn't given: nothing is held, it is longer than the limit, or there is another reason
 abbrev pub IsWhyUnread : Option (List ℕ) → ℕ → DeskFault → Type 0
 IsWhyUnread held limit Missing = held ≡ None
 IsWhyUnread held limit TooLong = (bytes : List ℕ) × (held ≡ Some bytes) × (limit < length bytes)
@@ -17,7 +17,8 @@ IsWhyUnread held limit Memory = ⊤
 abbrev pub AreHeld : Option (List File) → List ℕ → List ℕ → Type 0
 AreHeld held name bytes = IfSome held (λ files. held_bytes name files ≡ Some bytes)
 
--- These bytes came, within the limit, as many as the desk has served, and a taker has taken them after what it had.
+-- These bytes came. They are within the limit, there are as many as the desk has served, and a taker has taken them after what it
+-- had before.
 pub record TookAll
     {T : Type 0} (sought : T → Option (List ℕ)) (has_taken : T → List ℕ → Type 0) (old new : T)
     (AreThese : List ℕ → Type 0) (limit served : ℕ) : Type 0 where

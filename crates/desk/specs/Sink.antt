@@ -1,4 +1,4 @@
--- What a sink took over a call. A word takes the sink's ghost members, as `S.Sink`, and the sink before and after.
+-- What a sink took over a call. Each definition takes the sink's ghost members, as `S.Sink`, and the sink before and after.
 use Rattle.std.specs.Prelude.{ℕ, ◌≤◌, List, length, take}
 use Rattle.std.specs.Io.KnownBytes.{Appends}
 use Rattle.desk.specs.declared.sink.Sink.{Ghosts}

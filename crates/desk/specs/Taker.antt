@@ -1,7 +1,7 @@
 -- What a taker has taken over a call.
 use Rattle.std.specs.Prelude.{List, ℕ, ◌++◌, ◌≡◌, Option}
 
--- the same is sought, and whatever the taker had taken before, it has now taken that and then these bytes
+-- the same is sought, and the taker has now taken these bytes after whatever it had taken before
 pub record TookMore
     {T : Type 0} (sought : T → Option (List ℕ)) (has_taken : T → List ℕ → Type 0) (old new : T)
     (bytes : List ℕ) : Type 0 where

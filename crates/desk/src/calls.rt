@@ -3,7 +3,7 @@ ghost use Rattle.std.specs.Prelude.{◌≡◌};
 ghost use Rattle.desk.specs.Count.{one_more};
 ghost use Rattle.desk.specs.Calls.{is_to_fail};
 
-/// Calls, counted from 1, of which some are to fail.
+/// Calls, counted from 1, some of which are to fail.
 #[derive(Drop)]
 pub(crate) struct Calls {
     pub(crate) fails: Vec<u32>,

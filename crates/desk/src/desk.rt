@@ -10,7 +10,7 @@ ghost use Rattle.desk.specs.declared.served.Served.{Served};
 use std::error::Error;
 use std::fmt;
 
-/// A call to the outside failed.
+/// A call to the outside world failed.
 #[derive(Clone, Copy, Debug, PartialEq, Eq)]
 pub struct Failed;
 
@@ -22,7 +22,7 @@ impl fmt::Display for Failed {
 
 impl Error for Failed {}
 
-/// Files, of which one at a time is read. After a call that failed none is begun.
+/// Files, which are read one at a time. After a call that failed, no file is begun.
 pub trait Desk {
     /// The files that are held, or unknown. No call changes them.
     ghost held: { Self → Option (List File) };
@@ -33,13 +33,13 @@ pub trait Desk {
     /// Whether a file is begun.
     ghost begun: { Self → Bool };
 
-    /// How often the desk has failed. The count stops at the last u64.
+    /// How often the desk has failed. The count stops at the greatest u64.
     ghost faults: { Self → ℕ };
 
     /// How often a file was begun, how often there was none, and how many bytes came.
     ghost served: { Self → Served };
 
-    /// Begins the file of a name, at its start. At `Ok(false)` there is none, and none is begun.
+    /// Begins the file with this name, at its start. After `Ok(false)` there is no such file, and none is begun.
     fn begin(&mut self, name: &str) -> Result<bool, Failed>
         ensures held { held self.new ≡ held self.old }
         ensures begun { begun self.new ≡ is_ok_true result }
@@ -50,7 +50,7 @@ pub trait Desk {
         ensures served { served self.new ≡ after_begin result (served self.old) }
         ensures cause { HasCause (faults self.old) (faults self.new) result };
 
-    /// Reads the next bytes of the begun file. At `Ok(0)` of a piece with room it is at its end.
+    /// Reads the next bytes of the begun file. `Ok(0)` for a piece that has room means that the file is at its end.
     fn read(&mut self, into: &mut [u8]) -> Result<usize, Failed>
         requires { begun self.old ≡ true }
         ensures held { held self.new ≡ held self.old }

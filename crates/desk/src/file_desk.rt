@@ -8,8 +8,8 @@ use std::fs;
 use std::io::{ErrorKind, Read};
 use std::rt::Files;
 
-/// The files of the system. What they hold is unknown. What is left of the begun file is known if the file reports it, and a real one
-/// doesn't.
+/// The files of the system. What they hold is unknown. What is left of the begun file is known if the file reports it, and a real
+/// file doesn't.
 #[derive(Drop)]
 pub struct FileDesk<'a, R: Files> {
     rt: &'a R,
@@ -19,7 +19,7 @@ pub struct FileDesk<'a, R: Files> {
 }
 
 impl<'a, R: Files> FileDesk<'a, R> {
-    /// No file is begun yet.
+    /// Creates a desk at which no file is begun yet.
     pub fn new(rt: &'a R) -> FileDesk<'a, R>
         ensures begun { ⟦<FileDesk<'a, R> as Desk>⟧.begun result ≡ false }
         ensures faults { ⟦<FileDesk<'a, R> as Desk>⟧.faults result ≡ 0 }

@@ -1,12 +1,12 @@
-// A point at which tests hold a worker up.
+// A point at which tests hold up a worker.
 
-/// Called by a worker after each take that gave a piece. No contract depends on it: it exists for tests, which
-/// hold a worker up there.
+/// A worker calls this after each take that gave a piece. No contract depends on it. It exists for tests, which hold up a worker
+/// there.
 pub trait Gate {
     fn at(&self, worker: u32, piece: u32);
 }
 
-/// A gate that holds nobody up.
+/// A gate that holds up no worker.
 #[derive(Clone, Copy, Debug)]
 pub struct NoGate;
 

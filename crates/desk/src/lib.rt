@@ -1,6 +1,6 @@
-//! The outside of the suite: desks, from which files are read; sinks, to which texts are written; and a gate for tests. Each is a trait,
-//! with one implementation in memory, which reports everything, and one over the system, whose content no contract can know. A trait also
-//! stands for what takes a file's bytes piece by piece.
+//! How the suite reaches the outside world: desks, from which files are read; sinks, to which texts are written; and a gate for
+//! tests. Each of them is a trait with two implementations: one in memory, which reports everything, and one over the system, whose
+//! content no contract can know. Another trait stands for what takes a file's bytes piece by piece.
 #![tactic(auto)]
 
 mod calls;

@@ -15,7 +15,7 @@ use std::marker::Model;
 /// A file in memory.
 #[derive(Drop)]
 pub struct Named {
-    /// The name that it is held under.
+    /// The name under which it is held.
     pub name: Name,
     /// What it holds, from its first byte.
     pub bytes: Vec<u8>,
@@ -28,7 +28,7 @@ pub(crate) struct Place {
     at: usize,
 }
 
-/// Files in memory. The first of a name is the one held.
+/// Files in memory. The first file with a name is the one held.
 #[derive(Drop)]
 pub struct MemoryDesk {
     files: Vec<Named>,
@@ -56,7 +56,7 @@ impl Model for MemoryDesk {
 }
 
 impl MemoryDesk {
-    /// The calls of `begin` and `read` are counted together, from 1. Exactly those fail whose numbers are in `fails`.
+    /// The calls of `begin` and `read` are counted together, from 1. Exactly the calls whose numbers are in `fails` fail.
     pub fn new(files: Vec<Named>, fails: Vec<u32>) -> MemoryDesk
         ensures { result ≡ record {
           files = files_of files.items;
@@ -78,7 +78,7 @@ impl MemoryDesk {
     }
 }
 
-// The first file of a name.
+// The first file with this name.
 fn place_of(files: &[Named], name: &str) -> Option<usize>
     ensures found { MatchOption result (held_bytes name.now (files_of files.now) ≡ None)
         (λ i. held_bytes name.now (files_of files.now)
@@ -108,7 +108,7 @@ fn copy_from(bytes: &[u8], at: &mut usize, into: &mut [u8]) -> usize
     count
 }
 
-// Copies the next bytes of the file of a place, as many as there is room for, and moves the place past them.
+// Copies the next bytes of the file at a place, as many as there is room for, and moves the place past them.
 fn copy_next(files: &[Named], place: &mut Place, into: &mut [u8]) -> usize
     ensures count { result ≡ min (length into.new) (length (left_from files.now (Some place.old))) }
     ensures bytes { left_from files.now (Some place.old) ≡
@@ -141,7 +141,7 @@ impl Desk for MemoryDesk {
         ensures served { self.new.served ≡ after_begin result self.old.served }
         ensures cause { HasCause self.old.faults self.new.faults result }
 
-        // Exactly the calls that are to fail do, and exactly they are faults.
+        // Exactly the calls that are to fail do fail, and exactly these are faults.
         ensures fails { is_err result ≡ is_to_fail self.old.fails (one_more self.old.calls) }
         ensures faults { self.new.faults ≡ faults_after result self.old.faults }
         ensures calls { self.new.calls ≡ one_more self.old.calls }
@@ -178,7 +178,7 @@ impl Desk for MemoryDesk {
         // It gives as many bytes as there is room for.
         ensures count { IfOk result (λ n. n ≡ min (length into.new) (length self.old.left)) }
 
-        // Exactly the calls that are to fail do, and exactly they are faults.
+        // Exactly the calls that are to fail do fail, and exactly these are faults.
         ensures fails { is_err result ≡ is_to_fail self.old.fails (one_more self.old.calls) }
         ensures faults { self.new.faults ≡ faults_after result self.old.faults }
         ensures calls { self.new.calls ≡ one_more self.old.calls }

@@ -37,8 +37,8 @@ impl Model for MemorySink {
 }
 
 impl MemorySink {
-    /// It takes room for this many bytes. Its writes are counted from 1. Exactly those fail whose numbers are in `fails`, and those whose
-    /// piece doesn't fit the room that is left.
+    /// Creates a sink with room for this many bytes. Its writes are counted from 1. Exactly those writes fail whose numbers
+    /// are in `fails` or whose piece doesn't fit into the room that is left.
     pub fn new(alloc: Global, room: u32, fails: Vec<u32>) -> Result<MemorySink, Memory>
         ensures { IfOk result (λ sink. sink ≡ record {
           taken = [];
@@ -57,7 +57,7 @@ impl MemorySink {
         })
     }
 
-    /// What was taken.
+    /// The bytes taken.
     pub fn bytes(&self) -> &[u8]
         ensures { result.now ≡ self.now.taken }
     {
@@ -76,7 +76,7 @@ impl Sink for MemorySink {
         ensures bytes { WriteAppends (Some self.old.taken) (Some self.new.taken) result bytes.now }
         ensures cause { HasCause self.old.faults self.new.faults result }
 
-        // Exactly the writes that are to fail do, and those whose piece doesn't fit. Any other takes it whole.
+        // Exactly those writes fail that are to fail or whose piece doesn't fit. Any other write takes the whole piece.
         ensures fails { is_err result ≡ (is_to_fail self.old.fails (one_more self.old.writes)
             || nat_lt (self.old.room - length self.old.taken) (length bytes.now)) }
         ensures whole { IfOk result (λ n. n ≡ length bytes.now) }

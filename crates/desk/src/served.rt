@@ -1,25 +1,25 @@
 // What a desk has served, whether or not it reports its files.
 //
-// A ghost member must be a function of the value, so these counts exist at run time. No code reads them for its answer.
+// A ghost member must be a function of the value, so these counts exist at run time. No code reads them to form an answer.
 ghost use Rattle.std.specs.Prelude.{◌≡◌, max};
 ghost use Rattle.desk.specs.Count.{grown, one_more};
 ghost use Rattle.desk.specs.Passing.{passing};
 
 use irv_base::MOST_FILE_BYTES;
 
-/// What a desk has served so far, whether or not it reports its files. Each count stops at the last u64.
+/// What a desk has served so far, whether or not it reports its files. Each count stops at the greatest u64.
 ///
-/// A `Desk` keeps one to say what came of its calls: it calls `begin` at the start of each of its own `begin`, then `miss` if that
-/// answers false, and `give` at each read that succeeds.
+/// A `Desk` keeps one of these to report what came of its calls. It calls `begin` at the start of each of its own `begin` calls,
+/// then `miss` if its `begin` answers false, and `give` at each read that succeeds.
 #[derive(Clone, Copy, Debug, PartialEq, Eq)]
 pub struct Served {
     /// How often `begin` was called.
     pub begins: u64,
     /// How often `begin` answered false.
     pub misses: u64,
-    /// How many bytes came since the last `begin`.
+    /// The number of bytes that came since the last `begin`.
     pub bytes: u64,
-    /// The most bytes that ever came between one `begin` and the next.
+    /// The maximum number of bytes that ever came between one `begin` and the next.
     pub longest: u64,
     /// How often more than `MOST_FILE_BYTES` came between one `begin` and the next.
     pub too_long: u64,
@@ -28,7 +28,7 @@ pub struct Served {
 impl Served {
     ghost use Rattle.desk.specs.Served.{nothing};
 
-    /// Nothing was served yet.
+    /// Nothing has been served yet.
     pub fn new() -> Served
         ensures { result ≡ nothing }
     {
@@ -41,7 +41,7 @@ impl Served {
         }
     }
 
-    /// A file is asked for.
+    /// Counts a request for a file.
     pub fn begin(&mut self)
         ensures { self.new ≡ record self.old { begins = one_more self.old.begins; bytes = 0 } }
     {
@@ -49,14 +49,14 @@ impl Served {
         self.bytes = 0;
     }
 
-    /// There is none.
+    /// Counts a file that doesn't exist.
     pub fn miss(&mut self)
         ensures { self.new ≡ record self.old { misses = one_more self.old.misses } }
     {
         self.misses = self.misses.saturating_add(1);
     }
 
-    /// This many bytes of the open file are given.
+    /// Counts this many bytes given from the open file.
     pub fn give(&mut self, count: usize)
         ensures { let bytes = grown self.old.bytes count in
             self.new ≡ record self.old {

@@ -4,7 +4,7 @@ ghost use Rattle.std.specs.Prelude.{◌≡◌};
 use crate::{Failed, Sink};
 use std::io::Write;
 
-/// A writer of std, such as the standard output. It reports what the writer reports, so nothing for a real stream.
+/// A writer of std, such as the standard output. It reports what the writer reports, which is nothing for a real stream.
 #[derive(Drop)]
 pub struct StreamSink<W: Write> {
     writer: W,
@@ -12,7 +12,7 @@ pub struct StreamSink<W: Write> {
 }
 
 impl<W: Write> StreamSink<W> {
-    /// A sink into this writer, without a fault yet. What the writer has taken before counts as taken.
+    /// Creates a sink that writes to this writer, without a fault yet. What the writer has taken before counts as taken.
     pub fn new(writer: W) -> StreamSink<W>
         ensures taken { ⟦<StreamSink<W> as Sink>⟧.taken result ≡ W.contents writer }
         ensures faults { ⟦<StreamSink<W> as Sink>⟧.faults result ≡ 0 }
@@ -26,7 +26,7 @@ impl<W: Write> Sink for StreamSink<W> {
 
     ghost faults = { λ s. s.faults };
 
-    /// Each error of the writer is a fault, and so is a write that takes nothing of a piece that isn't empty.
+    /// Each error of the writer is a fault, and so is a write that takes nothing from a piece that isn't empty.
     fn write(&mut self, bytes: &[u8]) -> Result<usize, Failed> {
         if bytes.is_empty() {
             return Ok(0);

@@ -1,21 +1,21 @@
-// What files are read into.
+// Where the bytes of files go.
 ghost use Rattle.std.specs.Prelude.{◌≡◌, ℕ, List, None, Option, OnOk, ⊤};
 ghost use Rattle.desk.specs.Taker.{TookMore};
 
 use irv_base::Memory;
 
-/// What takes the bytes of a file, one piece after the other.
+/// A taker takes the bytes of a file, piece by piece.
 pub trait Taker {
-    /// What it takes bytes for, as it was made; taking bytes leaves that as it is.
+    /// What the taker takes bytes for, as set when it was made. Taking bytes doesn't change it.
     ghost sought: { Self → Option (List ℕ) };
 
-    /// It has taken these bytes.
+    /// The taker has taken these bytes.
     ghost has_taken: { Self → List ℕ → Type 0 };
 
-    /// What it needs to take bytes, as that threads may share what starts them.
+    /// What the taker needs in order to take bytes, such as that threads may share what starts them.
     ghost ready: { Self → Type 0 };
 
-    /// Takes the bytes that come next.
+    /// Takes the next bytes.
     fn take(&mut self, piece: &[u8]) -> Result<(), Memory>
         requires { ready self.old }
         ensures taken { OnOk result (TookMore sought has_taken self.old self.new piece.now) }

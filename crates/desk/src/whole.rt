@@ -20,7 +20,7 @@ pub enum DeskFault {
     ReadFault,
     /// The file has more bytes than the limit.
     TooLong,
-    /// Memory could not be had.
+    /// Memory could not be allocated.
     Memory,
 }
 
@@ -53,11 +53,11 @@ impl From<irv_base::Memory> for DeskFault {
     }
 }
 
-// How many bytes are asked for at once.
+// The number of bytes requested at once.
 const PIECE: usize = 65_536;
 
-/// Reads the whole file of a name into what takes its bytes, piece by piece, if it has at most `limit` bytes. If it fails, some pieces
-/// may have been taken.
+/// Reads the whole file with this name, if it has at most `limit` bytes, and passes its bytes to a taker piece by piece. If the
+/// read fails, some pieces may have been taken.
 pub fn read_into<D: Desk, T: Taker>(
     desk: &mut D,
     name: &str,
@@ -65,14 +65,14 @@ pub fn read_into<D: Desk, T: Taker>(
     into: &mut T,
 ) -> Result<(), DeskFault>
     requires { T.ready into.old }
-    // All that came was taken. If the desk reports its files, that is what it holds, or why it isn't given.
+    // Everything that came was taken. If the desk reports its files, that is what it holds, and an error says why it isn't given.
     ensures taken { OnOk result (TookAll T.sought T.has_taken into.old into.new
         (AreHeld (D.held desk.old) name.now) limit (D.served desk.new).bytes) }
     ensures unread { IfSome (D.held desk.old) (λ files.
         IfErr result (IsWhyUnread (held_bytes name.now files) limit)) }
 
-    // In any case one file was begun. It is missing exactly if `begin` answered false, and too long exactly if more than `limit` bytes
-    // came.
+    // In any case, one file was begun. It is missing exactly if `begin` answered false, and too long exactly if more than `limit`
+    // bytes came.
     ensures begins { (D.served desk.new).begins ≡ one_more (D.served desk.old).begins }
     ensures missing { (D.served desk.new).misses ≡
         misses_after_reading result (D.served desk.old).misses }
@@ -82,7 +82,7 @@ pub fn read_into<D: Desk, T: Taker>(
     ensures over { (D.served desk.new).too_long ≡
         too_long_after (D.served desk.new).bytes (D.served desk.old).too_long }
 
-    // A fault comes only if the count of faults rose, and if that rose, nothing else comes.
+    // A fault is returned only if the count of faults rose, and if the count rose, nothing else is returned.
     ensures later { D.faults desk.old ≤ D.faults desk.new }
     ensures cause { IsErrOf result DeskFault.ReadFault →
         Rose (D.faults desk.old) (D.faults desk.new) }
@@ -99,7 +99,7 @@ pub fn read_into<D: Desk, T: Taker>(
     read_begun(desk, limit, into)
 }
 
-// Reads what is left of the begun file, of which nothing came yet.
+// Reads the rest of the begun file, none of whose bytes came yet.
 fn read_begun<D: Desk, T: Taker>(desk: &mut D, limit: u32, into: &mut T) -> Result<(), DeskFault>
     requires begun { D.begun desk.old ≡ true }
     requires start { (D.served desk.old).bytes ≡ 0 }
@@ -140,7 +140,7 @@ fn read_begun<D: Desk, T: Taker>(desk: &mut D, limit: u32, into: &mut T) -> Resu
     }
 }
 
-/// Writes all the bytes. At `Failed` the sink took a prefix of them.
+/// Writes all the bytes. If the answer is `Failed`, the sink took a prefix of them.
 pub fn write_all<S: Sink>(sink: &mut S, bytes: &[u8]) -> Result<(), Failed>
     ensures whole { OnOk result (Took S.Sink sink.old sink.new bytes.now) }
     ensures prefix { OnErr result (TookPrefix S.Sink sink.old sink.new bytes.now) }

@@ -1,4 +1,4 @@
--- A list whose assertions are all in another has no more NENs.
+-- If all assertions of a list are in another list, it has no more NENs.
 use Rattle.std.proofs.Common.{◌≡◌, suc, ◌≤◌, true, false, cond, not, inl, inr, List, [], ◌∷◌, length, refl, sym, ap, arith, subst, ◌∙◌}
 use Rattle.std.specs.List.{list_any}
 use Rattle.std.proofs.lemmas.Bool.{and_parts, and_from, both_ways, cases_Bool, not-true, not_from_false}
@@ -91,7 +91,7 @@ fewer-nens xs ys part =
     let b = once-long ys in
     omega (arith, le, a, b)
 
--- a NEN that isn't in a list counts once more
+-- a NEN that isn't in a list adds one to the count
 pub one-more-nen : (a : Assertion) (list : List Assertion) → is_nen a ≡ true → (Member a list → ⊥) → nen_count (a ∷ list) ≡ suc (nen_count list)
 one-more-nen a list nen out =
     elim (cases_Bool (list_any (λ c. is_same c a) list)) [

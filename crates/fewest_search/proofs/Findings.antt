@@ -1,4 +1,4 @@
--- What the parts of a search for the fewest NENs come to.
+-- What the parts of a search for the fewest NENs find.
 use Rattle.std.proofs.Common.{◌≡◌, ℕ, ◌≤◌, ◌^◌, Bool, true, false, not, ◌&&◌, ◌==◌, if◌then◌else◌, nat_lt, nat_le, inl, inr, List, [], ◌∷◌, ◌++◌, map, length, All, None, Ok, refl, sym, ap, subst, arith, eq-eqb, eqb-true, ltb-true, ◌∙◌}
 use Rattle.std.specs.List.{list_any, range_with_len}
 use Rattle.std.proofs.lemmas.Bool.{and_parts, and_from, both_ways, cases_Bool, cases_lt, false_from_ne_true, not-true, not_from_false}
@@ -67,7 +67,7 @@ module _ (n : ℕ) (records : List (List ℕ)) (floor set c : ℕ) where
             (member-filter (is_enough n records floor) (map (Neb w) (candidates n)) (member-map (Neb w) (candidate-member c n below)) enough);
       }
 
-  -- a step that the list lets pass is none that a NEB bars
+  -- no NEB bars a step that the list lets pass
   pub passes-free : (list : List Assertion) → IsWithin (nebs n records floor) list → passes list set c ≡ true → not (is_barred n records floor set c) ≡ true
   passes-free list within t =
       not_from_false (is_barred n records floor set c) (false_from_ne_true (is_barred n records floor set c) (λ b.
@@ -75,7 +75,7 @@ module _ (n : ℕ) (records : List (List ℕ)) (floor set c : ℕ) where
       both_ways (list_any (λ a. is_anew a set c) list) (not-true (list_any (λ a. is_anew a set c) list) t)
       (list_any-member (λ a. is_anew a set c) {x = Neb h.winner c} (within (Neb h.winner c) h.listed) h.anew)))
 
-  -- nor is one below the floor
+  -- nor does a NEB bar a step below the floor
   pub below-free : nat_lt (step n records set c) floor ≡ true → not (is_barred n records floor set c) ≡ true
   below-free l =
       not_from_false (is_barred n records floor set c) (false_from_ne_true (is_barred n records floor set c) (λ b.
@@ -95,14 +95,14 @@ module _ (n : ℕ) (records : List (List ℕ)) (floor set c : ℕ) where
 none-below : (x : ℕ) → nat_lt x 0 ≡ false
 none-below x = grind arith
 
--- below the best margin no more sets are reached than stand beside its NEBs
+-- below the best margin, no more sets are reached than its NEBs let stand
 cover-beside : (n winner : ℕ) (records : List (List ℕ)) → cover_sets n records winner ≤ sets_beside n records winner (best_of n records winner)
 cover-beside n winner records =
     let best = best_of n records winner in
     standing-more n winner (λ set c. nat_lt (step n records set c) best) (λ set c. not (is_barred n records best set c))
     (λ set c l. below-free n records best set c l)
 
--- and none below a margin of 0
+-- and no sets are reached below a margin of 0
 no-walk : (p : ℕ → ℕ → Bool) → ((set c : ℕ) → p set c ≡ false) → (before t : List ℕ) (c : ℕ) → t ≡ before ++ c ∷ [] → walks p t ≡ true → ⊥
 no-walk p none [] [] c e w = cc e
 no-walk p none (b ∷ before) [] c e w = cc e
@@ -114,7 +114,7 @@ none-stand n winner p none =
     let (t, s) = from_standing n winner p set m in
     absurd (no-walk p none s.is.elects.0 t s.is.elected s.is.elects.1 s.going))
 
--- above a margin of 0 all that stand beside the NEBs are needed
+-- above a margin of 0, all sets that the NEBs let stand are needed
 if-some : (best beside : ℕ) → 1 ≤ best → (if best == 0 then 0 else beside) ≡ beside
 if-some best beside some = by (best == 0) refl where
   by : (b : Bool) → (best == 0) ≡ b → (if b then 0 else beside) ≡ beside
@@ -157,7 +157,7 @@ module _ (n winner : ℕ) (records : List (List ℕ)) (floor : ℕ) (list : List
   pub each-enough : (a : Assertion) → Member a list → is_enough n records floor a ≡ true
   each-enough a m = from_list_all (is_enough n records floor) m has-fewest.complete.enough
 
-  -- no NEN can be spared
+  -- every NEN is needed
   pub nen-needed : (a : Assertion) → Member a list → is_nen a ≡ true → IsOpen n winner (others a list)
   nen-needed a m nen =
       elim (cases_Bool (covers n winner (others a list))) [
@@ -173,7 +173,7 @@ module _ (n winner : ℕ) (records : List (List ℕ)) (floor : ℕ) (list : List
             absurd (omega (arith, le, one, few))
       ]
 
-  -- as few have those of its assertions that still cover and have all NENs
+  -- if some of its assertions still cover and include all NENs, they have equally few
   pub part-fewest : (part : List Assertion) → IsWithin part list → covers n winner part ≡ true → HasFewest n winner records floor part
   part-fewest part within covering = record {
     complete = record { enough = list_all-each (is_enough n records floor) part (λ a m. each-enough a (within a m)); covering = covering };
@@ -208,7 +208,7 @@ module _ (n winner : ℕ) (records : List (List ℕ)) (floor : ℕ) (neb-claims 
       all-from_members (λ (claim : Claim). is_proper n claim.assertion ≡ true) (neb-claims ++ nen-claims) (λ claim m.
       (enough-facts n records floor claim.assertion (each-enough n winner records floor list has-fewest claim.assertion (claim-member claim m))).proper)
 
-  -- they cover within a budget of the sets that stand beside the NEBs
+  -- they cover within a budget of the sets that the NEBs let stand
   pub all-covered : (sets : ℕ) → sets_beside n records winner floor ≤ sets →
       first_within n winner sets (passes (assertions_in (neb-claims ++ nen-claims))) ≡ Ok None
   all-covered sets within =
@@ -234,7 +234,7 @@ module _ (n winner : ℕ) (records : List (List ℕ)) (floor : ℕ) (neb-claims 
               cutter.strongest.measured ∙ ap (true_margin records) (sym cutter.nen)
         ]
 
-    -- those that are left have the fewest NENs, and each is needed
+    -- the claims that are left have the fewest NENs, and each is needed
     pub spared-fewest : (sets : ℕ) (claims : List Claim) → AreSpared n winner sets neb-claims nen-claims claims → AreFewest n records winner sets floor claims
     spared-fewest sets claims spared =
         let member = λ (claim : Claim) (m : Member claim claims). member-from_contains claim (neb-claims ++ nen-claims) (spared.part claim (contains-from_member m)) in

@@ -1,4 +1,4 @@
--- The least margin that a gap leaves.
+-- The smallest margin that a gap leaves.
 use Rattle.std.proofs.Common.{◌≡◌, ℕ, ◌+◌, ◌-◌, ◌*◌, ◌/◌, ◌%◌, ◌<◌, ◌≤◌, max, arith}
 use Rattle.std.proofs.lemmas.Nat.{div-add-mod', mod_below, mul-le}
 use Rattle.fewest_search.specs.Gap.{least_margin}
@@ -29,7 +29,7 @@ gap_is_rounded_up gap best votes =
 part-le : (gap best : ℕ) → best * (1000 - gap) ≤ 1000 * best
 part-le gap best = let kept : 1000 - gap ≤ 1000 = omega arith in grind (arith, mul-le, kept)
 
--- it isn't above the best one
+-- it isn't above the best margin
 pub least-le : (gap best : ℕ) → 1 ≤ best → least_margin gap best ≤ best
 least-le gap best some = (gap_is_rounded_up gap best best).1 (some, part-le gap best)
 

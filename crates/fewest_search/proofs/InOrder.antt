@@ -33,7 +33,7 @@ order-after k x e =
       | inr f ↦ elim (before-either k x f) [ inl same ↦ let q : order k x ≡ Equal = (cmp-Equal k x).1 same in cc | inr b ↦ b ]
     ]
 
--- ---- one entry put in
+-- ---- one entry added
 module _ (k : Assertion) (v : ℕ) where
   abbrev put : List Entry → List Entry
   put es = insert_entry order es k v

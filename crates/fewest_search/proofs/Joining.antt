@@ -19,7 +19,7 @@ use Rattle.fewest_search.proofs.Needing.{IsWithin, covered-more, others-part, to
 abbrev assertion-of : Claim → Assertion
 assertion-of claim = claim.assertion
 
--- claims that are all among others have their assertions among theirs
+-- if claims are all among others, so are their assertions
 within-claims : (part whole : List Claim) → ((claim : Claim) → Member claim part → Member claim whole) → IsWithin (assertions_in part) (assertions_in whole)
 within-claims part whole f a m =
     let (claim, k, e) = from_map assertion-of a part m in

@@ -1,4 +1,4 @@
--- Fewer assertions are as much too few, and what is open.
+-- If assertions are too few, so are fewer of them; and what is open.
 use Rattle.std.proofs.Common.{◌≡◌, ℕ, ◌^◌, ◌<◌, ◌≤◌, ◌-◌, Bool, true, false, not, inl, inr, List, [], ◌∷◌, length, Option, Some, None, Ok, Err, refl, sym, ap, arith, ◌∙◌}
 use Rattle.std.specs.List.{list_any, range_with_len}
 use Rattle.std.proofs.lemmas.Bool.{and_from, and_parts, both_ways, cases_Bool, false_from_ne_true, not-true, not_from_false}
@@ -26,7 +26,7 @@ use Rattle.set_search.proofs.Deciding.{from_ok, from_spent}
 use Rattle.set_search.proofs.Giving.{same-self, is_the_same}
 use Rattle.fewest_search.specs.Needed.{IsOpen, IsTooFew, others}
 
--- the one list has no assertion that the other hasn't
+-- the first list has no assertion that the second doesn't have
 abbrev pub IsWithin : List Assertion → List Assertion → Type 0
 IsWithin part whole = (a : Assertion) → Member a part → Member a whole
 
@@ -40,7 +40,7 @@ passes-part part whole within set c t =
     let p = λ (a : Assertion). is_anew a set c in
     not_from_false (list_any p part) (none-of p part whole within (not-true (list_any p whole) t))
 
--- what walks by fewer steps
+-- what walks with fewer steps also walks with more
 walks-more : (p q : ℕ → ℕ → Bool) (t : List ℕ) → ((set c : ℕ) → p set c ≡ true → q set c ≡ true) → walks p t ≡ true → walks q t ≡ true
 walks-more p q [] f h = refl
 walks-more p q (c ∷ t) f h =

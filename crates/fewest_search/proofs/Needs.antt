@@ -43,7 +43,7 @@ abbrev assertion-of : Claim → Assertion
 assertion-of claim = claim.assertion
 
 -- ---- one claim left out
--- in a list that rises, the others come before or after
+-- in an increasing list, the others come before or after
 apart : (before : List Assertion) (a : Assertion) (later : List Assertion) → Sorted Before (before ++ a ∷ later) → (b : Assertion) → Member b (before ++ later) →
     a ≡ b → ⊥
 apart [] a later (more first s) b m e =
@@ -129,7 +129,7 @@ module _ (n winner sets least : ℕ) (records : List (List ℕ)) (claims : List 
       let same : true_margin records claim.assertion ≡ true_margin records a = ap (true_margin records) e in
       (claim, contains-from_member m, omega (arith, at, le, same))
 
--- the smallest is the best one, if none may be below it
+-- the smallest margin is the best one, if none may be below it
 pub some-at_best : (n winner sets : ℕ) (records : List (List ℕ)) (claims : List Claim) → winner < n → 1 < n →
     AreFewest n records winner sets (best_of n records winner) claims →
     All (λ (claim : Claim). best_of n records winner ≤ claim.margin) claims

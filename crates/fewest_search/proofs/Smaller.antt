@@ -1,4 +1,4 @@
--- At a smaller margin more assertions are enough, and no more sets stand beside the NEBs.
+-- At a smaller margin, more assertions are enough, and the NEBs let no more sets stand.
 use Rattle.std.proofs.Common.{◌≡◌, ℕ, ◌<◌, ◌≤◌, true, not, ◌&&◌, nat_le, List, arith, le-leb}
 use Rattle.std.proofs.lemmas.Bool.{and_parts, and_from, both_ways, false_from_ne_true, not-true, not_from_false}
 use Rattle.irv_base.specs.Candidates.{candidates, has}
@@ -30,7 +30,7 @@ module _ (n : ℕ) (records : List (List ℕ)) (least best : ℕ) (le : least �
       list_any-member (λ w. is_enough n records least (Neb w c) && not (has (more set c) w)) {x = w} m
       (and_from (is_enough n records least (Neb w c)) (not (has (more set c) w)) (enough-less (Neb w c) enough) out)
 
-  -- no more sets stand beside the NEBs
+  -- the NEBs let no more sets stand
   pub beside-less : (winner : ℕ) → sets_beside n records winner least ≤ sets_beside n records winner best
   beside-less winner =
       standing-more n winner (λ set c. not (is_barred n records least set c)) (λ set c. not (is_barred n records best set c)) (λ set c t.

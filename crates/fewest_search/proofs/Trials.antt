@@ -1,4 +1,4 @@
--- What is left while the NEBs are tried, from the last to the first.
+-- What is left while the NEBs are tried from last to first.
 use Rattle.std.proofs.Common.{◌≡◌, ℕ, zero, suc, ◌+◌, ◌-◌, ◌<◌, inl, inr, List, [], ◌∷◌, ◌++◌, map, length, take, get_or, None, Ok, sym, ap, subst, arith, ◌∙◌}
 use Rattle.std.proofs.lemmas.List.{take_all}
 use Rattle.irv_base.proofs.Members.{Member, contains-from_member, from_map, here, member-append_cases, member-append_left, member-append_right, member-from_contains, member-map, member_cases, member_nil, there}
@@ -24,7 +24,7 @@ member-get (claim ∷ claims) zero d l = here
 member-get (claim ∷ claims) (suc i) d l = there (member-get claims i d (omega (arith, l)))
 
 module _ (n winner sets : ℕ) (claims : List Claim) where
-  -- those at lower places aren't tried
+  -- the claims at lower indexes haven't been tried
   pub record IsLeftAt (place : ℕ) (left : Left) (reached : List ℕ) : Type 0 where
     pub untried : left.untried ≡ take place claims
     pub are : AreReached n winner sets (assertions_left left) reached
@@ -84,7 +84,7 @@ module _ (n winner sets : ℕ) (claims : List Claim) where
           (others-part claim.assertion (assertions_left rest) (assertions_left left) rest-within) (at.needed claim (subst (Member claim) rest-kept m));
     }
 
-    -- the others of the claim are among the rest
+    -- the other assertions than the claim's are among the rest
     others-rest : IsWithin (others d.assertion (assertions_with d rest)) (assertions_left rest)
     others-rest a m =
         let (k, differ) = from-others d.assertion (assertions_with d rest) a m in

@@ -21,8 +21,8 @@ use Rattle.fewest_search.specs.declared.ends.FewestAssertions.{FewestAssertions}
 use Rattle.fewest_search.specs.declared.ends.FewestEnd.{FewestEnd}
 use Rattle.fewest_search.specs.declared.ends.FewestEnd.TheVariants.{Found, Undecided}
 
--- the claims are true with their margins, and in the fixed order; no true assertions of at least the margin that cover have fewer NENs,
--- each of the claims is needed as far as the budget shows it, and they cover within it
+-- the claims are true with their margins, and in the fixed order; no true assertions of at least the margin that cover have fewer NENs;
+-- each claim is needed as far as the budget shows it, and the claims cover within the budget
 pub record AreFewest (n : ℕ) (records : List (List ℕ)) (winner sets margin : ℕ)
     (claims : List Claim) : Type 0 where
   pub measured : All (λ claim. claim.margin ≡ true_margin records claim.assertion) claims
@@ -31,8 +31,8 @@ pub record AreFewest (n : ℕ) (records : List (List ℕ)) (winner sets margin :
   pub needed : All (λ claim. IsNeededWithin n winner sets (assertions_in claims) claim.assertion) claims
   pub covered : first_within n winner sets (passes (assertions_in claims)) ≡ Ok None
 
--- the best margin, above 0, the certificate's order, and claims with the fewest NENs at the least margin that the gap leaves; the budget
--- has the sets that are needed
+-- the best margin, which is above 0, the certificate's order, and claims with the fewest NENs at the smallest margin that the gap leaves; the
+-- budget has the sets that are needed
 pub record IsFewest (n : ℕ) (records : List (List ℕ)) (winner sets gap : ℕ)
     (found : FewestAssertions) : Type 0 where
   pub margin : found.margin ≡ best_of n records winner
@@ -43,7 +43,7 @@ pub record IsFewest (n : ℕ) (records : List (List ℕ)) (winner sets gap : ℕ
       found.claims.items
   pub within : fewest_sets n records winner ≤ sets
 
--- more sets are needed than the budget has; with it comes the start order with its hardness, which is above 0
+-- more sets are needed than the budget has; the answer has the start order with its hardness, which is above 0
 pub record IsSpent (n : ℕ) (records : List (List ℕ)) (tab : Tabulated) (sets : ℕ)
     (order : List ℕ) (margin : ℕ) : Type 0 where
   pub above : sets < fewest_sets n records tab.winner
@@ -55,7 +55,7 @@ abbrev pub IsEnd : ℕ → List (List ℕ) → Tabulated → ℕ → ℕ → Few
 IsEnd n records tab sets gap (Found found) = IsFewest n records tab.winner sets gap found
 IsEnd n records tab sets gap Undecided = IsUndecided n records tab sets
 
--- want of memory says nothing
+-- running out of memory says nothing
 abbrev pub IsFault : ℕ → List (List ℕ) → Tabulated → ℕ → SetsFault → Type 0
 IsFault n records tab sets (Spent order margin) = IsSpent n records tab sets order margin
 IsFault n records tab sets Memory = ⊤

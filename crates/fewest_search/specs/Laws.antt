@@ -10,7 +10,7 @@ use Rattle.fewest_search.specs.Needed.{IsOpen}
 use Rattle.fewest_search.specs.Sets.{fewest_sets}
 use Rattle.fewest_search.specs.declared.ends.FewestAssertions.{FewestAssertions}
 
--- no set of these three is needed: nobody's, that of the winner alone, and that of all candidates
+-- none of these three sets is needed: the empty set, the set of only the winner, and the set of all candidates
 abbrev pub SetsAreFew : Type 0
 SetsAreFew =
     (n winner : ℕ) (records : List (List ℕ)) → winner < n → 1 < n →
@@ -22,7 +22,7 @@ NeverBoth =
     (found : FewestAssertions) →
     IsFewest n records tab.winner sets gap found → IsSpent n records tab sets order margin → ⊥
 
--- without one of the claims an order stands
+-- an order stands without one of the claims
 abbrev pub AllAreNeeded : Type 0
 AllAreNeeded =
     (n winner sets margin : ℕ) (records : List (List ℕ)) (claims before : List Claim) (claim : Claim)
@@ -37,7 +37,7 @@ NensAreNeeded =
     AreFewest n records winner sets margin claims → claims ≡ before ++ claim ∷ later →
     IsTrue (is_nen claim.assertion) → IsOpen n winner (assertions_in (before ++ later))
 
--- it is the smallest number of votes, at least one, that isn't less than the best margin by more than this many thousandths of it
+-- it is the smallest number of votes, at least one, that isn't below the best margin by more than this number of thousandths of it
 abbrev pub GapIsRoundedUp : Type 0
 GapIsRoundedUp =
     (gap best votes : ℕ) →
@@ -47,7 +47,7 @@ GapIsRoundedUp =
 abbrev pub NoGapIsBest : Type 0
 NoGapIsBest = (best : ℕ) → 1 ≤ best → least_margin 0 best ≡ best
 
--- no claim has a margin below the least one, and some claim has none above the best one
+-- no claim has a margin below the minimum, and some claim has a margin not above the best one
 abbrev pub BestIsReached : Type 0
 BestIsReached =
     (n winner sets gap : ℕ) (records : List (List ℕ)) (found : FewestAssertions) → winner < n → 1 < n →

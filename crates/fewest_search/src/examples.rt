@@ -9,8 +9,8 @@ ghost use Rattle.fewest_search.specs.Sets.{fewest_sets};
 
 use assertions::Assertion;
 
-/// Five ballots 0, four 1,2 and three 2,1. The winner is 1. The order takes three sets, and the one NEB lets two stand. Without the NEB
-/// the order 1,0,2 stands, and without the NEN the order 2,1,0.
+/// Five ballots rank 0, four rank 1,2 and three rank 2,1. The winner is 1. The order takes three sets, and the one NEB lets two stand. The
+/// order 1,0,2 stands without the NEB, and the order 2,1,0 stands without the NEN.
 pub fn three_candidates()
     ensures sets { fewest_sets 3 contests.three_candidates 1 ≡ 3 }
     ensures others { others (Assertion.Neb 1 2) (Assertion.Neb 1 2 ∷ Assertion.Nen 1 0 3 ∷ [])
@@ -19,7 +19,7 @@ pub fn three_candidates()
     ensures nen { stands (Assertion.Neb 1 2 ∷ []) (2 ∷ 1 ∷ 0 ∷ []) ≡ true }
 {}
 
-/// Eight ballots of four candidates. The one NEB lets eight sets stand, and each of the four assertions is needed.
+/// There are eight ballots of four candidates. The one NEB lets eight sets stand, and each of the four assertions is needed.
 pub fn four_candidates()
     ensures sets { fewest_sets 4 eight_ballots 2 ≡ 8 }
     ensures covered { covers 4 2 fewest_of_eight ≡ true }

@@ -46,7 +46,7 @@ fn claims_of(
     in_fixed_order(alloc, left.as_slice())
 }
 
-// The fewest NENs of at least the margin `least`, if the NEBs of at least the best margin let no more than `sets` sets stand.
+// The fewest NENs with margins of at least `least`, if the NEBs with margins of at least the best one let no more than `sets` sets stand.
 fn nens_of(
     alloc: Global,
     counted: &Counted,
@@ -74,16 +74,17 @@ fn nens_of(
     fewest_nens(alloc, counted, winner, least, sets)
 }
 
-/// The true assertions of the contest with these records, of which `tab` is the tabulation, that confirm its winner with the fewest NENs
-/// that any do whose margins aren't below the least one. That is the best margin less `gap` thousandths of it, rounded up, and at least
-/// one vote. With them come the best margin and the order of the canonical certificate.
+/// Finds true assertions that confirm the winner of the contest with these records, whose tabulation is `tab`. They have the fewest NENs
+/// of all such assertions whose margins aren't below the minimum. The minimum is the best margin less `gap` thousandths of it, rounded up,
+/// and at least one vote. The answer also has the best margin and the order of the canonical certificate.
 ///
-/// The NEBs are first all of at least that margin. Of these each is dropped that can go, the smallest margin first, as far as a trial
-/// within `sets` shows it. So each assertion that is left is needed. No NEN can be spared by any choice of the others.
+/// At first the NEBs are all those with at least that margin. Then each that can be removed is dropped, smallest margin first, as far as a
+/// trial within `sets` shows it. So each assertion that is left is needed. No choice of the other assertions makes a NEN unnecessary.
 ///
-/// Two counts of sets are taken: those that the certificate's order needs, as `certify_by_sets` counts them, and those that stand beside
-/// all true NEBs of at least the best margin, whatever the gap. If one of them is above `sets`, the answer is `Spent`. But if the start
-/// order has hardness 0, the contest isn't decided, and the answer says so whatever the budget. The other error is want of memory.
+/// Two counts of sets are taken. The first is of those that the certificate's order needs, as `certify_by_sets` counts them. The second is
+/// of those that all true NEBs with at least the best margin let stand, whatever the gap. If either count is above `sets`, the answer is
+/// `Spent`. But if the start order has hardness 0, the contest isn't decided, and the answer says so whatever the budget. The other error
+/// is running out of memory.
 pub fn find_fewest(
     alloc: Global,
     counted: &Counted,
@@ -118,7 +119,7 @@ pub fn find_fewest(
                 order: start.order,
                 margin: start.margin,
             }),
-            // The certificate covers, and its margins are at least the best one.
+            // The certificate covers, and its margins are at least the best margin.
             NensFault::Uncovered => unreachable!(),
             NensFault::Memory => Err(SetsFault::Memory),
         },

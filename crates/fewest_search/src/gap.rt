@@ -1,8 +1,8 @@
-// The least margin that the assertions may have.
+// The smallest margin that the assertions may have.
 ghost use Rattle.std.specs.Prelude.{◌≡◌};
 ghost use Rattle.fewest_search.specs.Gap.{least_margin};
 
-/// The best margin less `gap` thousandths of it, rounded up, and at least one vote.
+/// Returns the best margin less `gap` thousandths of it, rounded up, and at least one vote.
 pub(crate) fn least_margin(best: u32, gap: u32) -> u32
     ensures { result ≡ least_margin gap best }
 {

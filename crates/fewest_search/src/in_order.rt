@@ -9,7 +9,7 @@ use irv_base::Memory;
 use std::alloc::Global;
 use std::collections::BTreeMap;
 
-// Puts the claims into the map, by their assertions.
+// Puts the claims into the map under their assertions.
 fn put_all(entries: &mut BTreeMap<Assertion, u32>, claims: &[Claim]) -> Result<(), Memory>
     ensures { OnOk result (entries.new.entries
         ≡ with_all ⟦<Assertion as Ord>⟧.cmp entries.old.entries (map entry_of claims.now)) }
@@ -20,7 +20,7 @@ fn put_all(entries: &mut BTreeMap<Assertion, u32>, claims: &[Claim]) -> Result<(
     Ok(())
 }
 
-/// The claims in the fixed order: of several with one assertion the last counts.
+/// Returns the claims in the fixed order. If several have the same assertion, the last one counts.
 pub(crate) fn in_fixed_order(alloc: Global, claims: &[Claim]) -> Result<Vec<Claim>, Memory>
     ensures { IfOk result (λ list. AreInOrder claims.now list.items) }
 {

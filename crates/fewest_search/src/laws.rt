@@ -1,7 +1,7 @@
-//! The laws of the fewest NENs of a contest: each holds of every value that it names, and has no code.
+//! The laws of the fewest NENs of a contest. Each holds of every value that it names, and has no code.
 ghost use Rattle.fewest_search.specs.Laws.{SetsAreFew, NeverBoth, AllAreNeeded, NensAreNeeded, GapIsRoundedUp, NoGapIsBest, BestIsReached};
 
-/// No contest needs more sets than there are, less three. So a budget of that many is never spent.
+/// No contest needs more sets than there are, less three. So a budget of that many never runs out.
 pub fn sets_are_few()
     ensures { SetsAreFew }
 {}
@@ -11,27 +11,27 @@ pub fn never_both()
     ensures { NeverBoth }
 {}
 
-/// With such a budget each assertion is needed: without it, an order stands that elects another candidate.
+/// With a budget of that many, each assertion is needed: without it, an order stands that elects another candidate.
 pub fn all_are_needed()
     ensures { AllAreNeeded }
 {}
 
-/// With any budget each NEN is.
+/// With any budget, each NEN is needed.
 pub fn nens_are_needed()
     ensures { NensAreNeeded }
 {}
 
-/// The least margin that a gap leaves is rounded up.
+/// The smallest margin that a gap leaves is rounded up.
 pub fn gap_is_rounded_up()
     ensures { GapIsRoundedUp }
 {}
 
-/// Without a gap it is the best one.
+/// Without a gap, it is the best margin.
 pub fn no_gap_is_best()
     ensures { NoGapIsBest }
 {}
 
-/// No margin is below it, and the smallest isn't above the best one.
+/// No margin is below it, and the smallest margin isn't above the best one.
 pub fn best_is_reached()
     ensures { BestIsReached }
 {}

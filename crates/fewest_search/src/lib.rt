@@ -1,7 +1,7 @@
-//! The assertions of a contest with the fewest NENs at its best margin, or at one a little below it, within a budget of sets.
+//! Finds the assertions of a contest with the fewest NENs at its best margin, or at a margin a little below it, within a budget of sets.
 //!
-//! The search by sets gives the best margin and the certificate's order (`set_search`), and a minimum cut the fewest NENs (`nen_cut`). Then
-//! each NEB that can go is dropped, by trials of what the others cover (`trimmer`). The certificate is never listed.
+//! The search by sets (`set_search`) gives the best margin and the certificate's order, and a minimum cut (`nen_cut`) gives the fewest NENs.
+//! Then trials of what the others cover (`trimmer`) drop each NEB that can be removed. The certificate is never listed.
 #![tactic(auto)]
 
 mod ends;

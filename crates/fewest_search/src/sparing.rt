@@ -1,4 +1,4 @@
-// The NEBs that are left once each that can go is dropped.
+// The NEBs that are left after each that can be removed is dropped.
 ghost use Rattle.std.specs.Prelude.{◌≡◌, ◌<◌, ◌≤◌, Ok, None, All, length, take, IfOk, IsTrue, MatchBool};
 ghost use Rattle.irv_base.specs.declared.limits.TheConstants.{ROOM};
 ghost use Rattle.assertions.specs.Assertions.{is_proper};
@@ -16,7 +16,7 @@ use irv_base::{Candidate, Memory};
 use std::alloc::Global;
 use trimmer::{Halt, Remaining, Steps};
 
-/// The NENs, and after them the NEBs, the smallest margin last.
+/// Returns the NENs followed by the NEBs, with the smallest margin last.
 pub(crate) fn in_turn(nebs: Vec<Claim>, nens: Vec<Claim>) -> Result<Vec<Claim>, Memory>
     ensures { IfOk result (λ claims. AreInTurn nebs.items nens.items claims.items) }
 {
@@ -55,8 +55,8 @@ fn cover_anew(alloc: Global, steps: &Steps<'_>, reached: &mut Reached) -> Result
     }
 }
 
-// Whether the claims cover without this one. The sets are those that are reached with it. If they cover, the sets become those that are
-// reached without it.
+// Whether the claims cover without this one. The sets are those that are reached with it. If the claims cover without it, the sets become
+// those that are reached without it.
 fn can_go(
     alloc: Global,
     steps: &Steps<'_>,
@@ -88,7 +88,7 @@ fn can_go(
     }
 }
 
-// The sets that are reached with all claims, which cover.
+// The sets that are reached with all claims. The claims cover.
 fn reached_with(
     alloc: Global,
     all: &Remaining<'_>,
@@ -110,10 +110,10 @@ fn reached_with(
     }
 }
 
-/// The claims that are left after this many first ones, which stay, once each of the others that can go is dropped, from the last to the
-/// first. All claims cover.
+/// Drops each claim that can be removed, from last to first, except this number of claims at the start, which stay. Returns the claims that
+/// are left after those. All claims together cover.
 ///
-/// A claim can go if those that are left without it cover, and no more sets count than the budget has.
+/// A claim can be removed if those that are left without it cover, and no more sets count than the budget has.
 pub(crate) fn nebs_left(
     alloc: Global,
     n: u32,

@@ -8,18 +8,18 @@ use std::alloc::AllocFailed;
 use std::error::Error;
 use std::fmt;
 
-/// Why a file isn't read, of a kind that has the rules `R`.
+/// Why a file of a kind that has the rules `R` isn't read.
 #[derive(Clone, Copy, Debug, PartialEq, Eq)]
 pub enum Fault<R> {
-    /// The file breaks `rule` at the place `at`: the number of a record or of an assertion from 1, or 0 for
-    /// an assertion file's own members.
+    /// The file breaks `rule` at the place `at`: the number of a record or an assertion, from 1, or 0 for an assertion file's own
+    /// members.
     Refused { rule: R, at: u64 },
-    /// Memory could not be had.
+    /// Memory could not be allocated.
     Memory,
 }
 
 impl<R> Fault<R> {
-    /// The file breaks this rule at the record number `at`.
+    /// The file breaks this rule at the record with the number `at`.
     pub fn at_record(rule: R, at: u32) -> Fault<R>
         ensures { result ≡ Refused rule at }
     {

@@ -1,4 +1,4 @@
-//! Why a file isn't read: the first rule that it breaks and the place, or want of memory.
+//! Why a file isn't read: the first rule that it breaks and the place, or lack of memory.
 #![tactic(auto)]
 
 mod fault;

@@ -1,4 +1,4 @@
-// The rules that a kind of file has.
+// The rules of a kind of file.
 ghost use Rattle.std.specs.Prelude.{◌≡◌, ℕ, List};
 
 /// A rule of a kind of file.
@@ -6,7 +6,7 @@ pub trait Rule: Copy {
     /// The name of each rule.
     ghost name: { Self → List ℕ };
 
-    /// The name of the rule in the text of a refusal, as `B3`.
+    /// The name of the rule as the text of a refusal gives it, such as `B3`.
     fn name(self) -> &'static str
         ensures { result.now ≡ name self };
 }

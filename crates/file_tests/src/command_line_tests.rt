@@ -1,4 +1,4 @@
-// Tests of `command_line`: lines, words that are none, and what a line asks for.
+// Tests of `command_line`: lines, words that aren't a line, and what a line requests.
 mod contests;
 mod fewest;
 mod polling;

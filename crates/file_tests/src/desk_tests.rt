@@ -1,4 +1,4 @@
-// Tests of `desk`, of what no clause says: that calls succeed, and what the system's files and writers give.
+// Tests of `desk` for what no clause says: that calls succeed, and what the system's files and writers return.
 use desk::{
     Desk, DeskFault, Failed, FileDesk, MemoryDesk, MemorySink, Named, StreamSink, read_into,
     write_all,
@@ -10,7 +10,7 @@ use std::test::Fail;
 
 const NO_FAILURE: [u32; 0] = [];
 
-// A desk that holds `a` twice, of which some calls are to fail.
+// A desk that holds `a` twice, and on which some calls fail.
 fn desk_of(alloc: Global, fails: &[u32]) -> Result<MemoryDesk, AllocError> {
     let mut files = Vec::new(alloc);
     for text in ["first", "second"] {
@@ -106,7 +106,7 @@ fn a_writer_takes_a_text(rt: HostRuntime) -> Result<(), Fail> {
     let mut room = [0u8; 6];
     let mut sink = StreamSink::new(room.as_mut_slice());
     write_all(&mut sink, b"four")?;
-    // There is room for two bytes more, and a write that takes nothing is an error.
+    // There is room for two more bytes, and a write that takes nothing is an error.
     assert_eq!(rt; write_all(&mut sink, b"five").err(), Some(Failed));
     assert_eq!(rt; room.as_slice(), b"fourfi".as_slice());
     Ok(())

@@ -1,5 +1,5 @@
-//! Tests of the crates that read and print files, and of the words of a call: whole files and lines, asked by public calls.
-//! Each module is named after the crate that it tests.
+//! Tests of the crates that read and print files, and of the words of a call. They pass whole files and lines to public calls. Each module
+//! is named after the crate that it tests.
 #![tactic(auto)]
 
 #[cfg(test)]

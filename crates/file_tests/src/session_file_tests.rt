@@ -1,5 +1,5 @@
-// Tests of `session_file`: the texts of whole sessions, byte for byte; session files that are read, and those that are refused. The risks are from
-// outside: worked out in Python.
+// Tests of `session_file`: the texts of whole sessions, byte for byte; session files that are read, and those that are refused. The risks
+// come from outside: they were worked out in Python.
 ghost use Rattle.std.specs.Prelude.{◌≡◌, ◌∷◌, [], IfOk};
 ghost use Rattle.session_file.specs.Examples as examples;
 
@@ -12,7 +12,7 @@ use session_state::{Digests, DoneRound, Session, signed_off};
 use std::alloc::{AllocError, Global};
 use std::test::Fail;
 
-// Some draws of one claim, all as recorded, and their risk.
+// Some draws for one claim, all as recorded, and their risk.
 fn clean_round(alloc: Global, draws: u32, risk: u64) -> Result<DoneRound, AllocError>
     ensures { IfOk result (λ round. round ≡ examples.clean_round draws risk) }
 {
@@ -26,7 +26,7 @@ fn clean_round(alloc: Global, draws: u32, risk: u64) -> Result<DoneRound, AllocE
     Ok(DoneRound::new(draws, vec![in alloc; counts]?, vec![in alloc; risk]?))
 }
 
-// Four draws and then one more.
+// Four draws, and then one more.
 fn rounds(alloc: Global) -> Result<Vec<DoneRound>, AllocError>
     ensures { IfOk result (λ rounds.
         rounds.items ≡ examples.four_draws ∷ examples.five_draws ∷ []) }
@@ -149,7 +149,7 @@ fn broken_once(rt: HostRuntime) -> Result<(), Fail> {
     Ok(())
 }
 
-// Where the draws don't rise, or the counts have another sum, all else is as it has to be.
+// If the draws don't increase, or the counts have another sum, everything else is as it must be.
 #[test]
 fn broken_rounds(rt: HostRuntime) -> Result<(), Fail> {
     let open = altered(rt.alloc(), ONE_CARD, "true", "false")?;

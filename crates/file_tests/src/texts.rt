@@ -1,7 +1,7 @@
-// What tests of several crates do with texts.
+// What the tests of several crates do with texts.
 use std::alloc::{AllocError, Global};
 
-/// The text with another one in place of each `old`.
+/// The text with each `old` replaced by another text.
 pub(crate) fn altered(
     alloc: Global,
     text: &str,

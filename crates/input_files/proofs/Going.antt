@@ -1,4 +1,4 @@
--- A command goes on with what a file says, or stops.
+-- A command continues with what a file says, or stops.
 use Rattle.std.proofs.Common.{◌≡◌, ◌⊎◌, inl, inr, ℕ, ◌+◌, ◌≤◌, List, Option, None, Some, IfSome, option_map, Result, Ok, Err, refl, sym, ap, subst, ◌∙◌, arith}
 use Rattle.std.specs.Prelude.{⊤}
 use Rattle.desk.specs.Count.{Rose, one_more}
@@ -44,7 +44,7 @@ stopped_now judged next refusal (inr memory) = memory_now (go_on judged next) (d
 
 -- ---- a file is read and judged
 
--- a file is read, and what is judged of it goes on
+-- a file is read, and the command continues with what is judged of it
 abbrev reading : {A : Type 0} → List ℕ → (List ℕ → Result A Verdict) → (List ℕ → A → Script) → Script
 reading name judged next = Read name (λ bytes. go_on (judged bytes) (next bytes))
 
@@ -124,7 +124,7 @@ pub then-only : {A B : Type 0} (first : Result A Verdict) (next : A → Result B
 then-only (Ok value) next only each = each value
 then-only (Err verdict) next only each = only
 
--- ---- what the desk served of a file that is refused
+-- ---- what the desk served for a file that is refused
 
 early : (rest : ℕ) (a b : Served) (status : ℕ) → (status ≡ 2) ⊎ (status ≡ 9) → IsAccountedFor 1 a b 0 → IsAccountedFor (rest + 1) a b status
 early rest a b status stopped first =
@@ -135,7 +135,7 @@ refusal-status : (verdict : Verdict) (status : ℕ) → IsRefusal verdict → st
 refusal-status (Answered kind text) status is e = absurd is
 refusal-status (Refused name text) status is e = e
 
--- it stops the command, and the rest of its files isn't begun
+-- the file stops the command, and the remaining files aren't begun
 pub stopped_accounted : {A : Type 0} (rest : ℕ) (a b : Served) (judged : Result A Verdict) (refusal : Stop) → OnlyRefuses judged → IsStopped judged refusal →
     IsAccountedFor 1 a b 0 →
     IsAccountedFor (rest + 1) a b (due_refusal refusal).status
@@ -179,7 +179,7 @@ not_done (Line NoFile text) e = cc
 not_done (Line IsTooLong text) e = cc
 not_done (Line NoRead text) e = cc
 
--- the rest of its files isn't begun
+-- the remaining files aren't begun
 pub stopped_early : (rest : ℕ) (a b : Served) (refusal : Stop) → IsAccountedFor 1 a b (due_refusal refusal).status →
     IsAccountedFor (rest + 1) a b (due_refusal refusal).status
 stopped_early rest a b refusal so_far = raised rest 1 a b (due_refusal refusal).status (not_done refusal) so_far

@@ -1,4 +1,4 @@
--- What is judged of files, one thing after the other.
+-- What is judged of files, one thing at a time.
 use Rattle.std.proofs.Common.{◌≡◌, ◌∙◌, inl, inr, ℕ, List, Option, None, Some, ok_or, Result, Ok, Err, refl, sym, ap, ap₂, subst}
 use Rattle.file_fault.specs.Refusals.{Refusal, Refuses}
 use Rattle.file_fault.specs.declared.fault.Fault.{Fault}
@@ -18,7 +18,7 @@ refused_for rule_name name read (Breaks rule at) refusal is (inl due) = inl (_, 
 refused_for rule_name name read (Breaks rule at) refusal is (inr memory) = inr memory
 refused_for rule_name name read Memory refusal is memory = inr memory
 
--- what is told of it is what it says
+-- what is reported about the file is what it says
 pub said : {A Why : Type 0} (words : Why → Verdict) (read : Result A Why) (value : A) → told words read ≡ Ok value → read ≡ Ok value
 said words (Ok x) value is = cc
 said words (Err why) value is = absurd (cc is)
@@ -38,7 +38,7 @@ pub unless_judged : {A : Type 0} (wrong : Option Verdict) (judged : Result A Ver
     IsJudged (unless wrong judged) result
 unless_judged wrong judged result none is = subst (λ j. IsJudged j result) (sym (unless_passed wrong judged none)) is
 
--- ---- one after the other
+-- ---- in order
 
 pub then_passed : {A B : Type 0} (first : Result A Verdict) (next : A → Result B Verdict) (value : A) → first ≡ Ok value → then_judged first next ≡ next value
 then_passed first next value is = ap (λ f. then_judged f next) is

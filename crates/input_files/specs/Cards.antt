@@ -8,7 +8,7 @@ use Rattle.cli_base.specs.Outcome.{Verdict}
 use Rattle.input_files.specs.Judged.{told, then_judged, unless}
 use Rattle.input_files.specs.Refusals.{no_card, refused_manifest}
 
--- a ballot, of a file with this name, has no card
+-- the verdict that a ballot of the file with this name has no card, if there is a ballot like this
 abbrev pub without_card : List ℕ → BallotFile → Batches → Option Verdict
 without_card name ballots batches = option_map (no_card name) (first_without_card batches ballots)
 

@@ -10,11 +10,11 @@ use Rattle.cli_base.specs.declared.outcome.Refusal.{Refusal as Stop}
 use Rattle.input_files.specs.Judged.{told, IsStopped}
 use Rattle.input_files.specs.Refusals.{refused_ballots}
 
--- what the bytes of a ballot file with this name say of the contest that is asked for, or of the only one
+-- what the bytes of a ballot file with this name say about the requested contest, or about the only one
 abbrev pub ballots_said : List ℕ → Option Id → List ℕ → Result BallotFile Verdict
 ballots_said name asked bytes = told (refused_ballots name) (ballots_of bytes asked)
 
--- these are the votes in the file, or the call stops: the file isn't read, or what it says is refused
+-- these are the votes in the file, or the call stops because the file isn't read or because what it says is refused
 abbrev pub AreVotes : Readings → List ℕ → Option Id → Result BallotFile Stop → Type 0
 AreVotes readings name asked (Ok votes) =
     (bytes : List ℕ) × readings name (Bytes bytes)

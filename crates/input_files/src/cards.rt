@@ -12,16 +12,16 @@ use command::FileName;
 use manifest::{LinkFault, Linked, Manifest, link};
 use std::alloc::Global;
 
-/// The cards of a manifest, with what is recorded of each.
+/// The cards of a manifest, with what is recorded for each card.
 #[derive(Drop)]
 pub struct Cards {
-    /// Its batches.
+    /// The manifest's batches.
     pub manifest: Manifest,
-    /// What is recorded of each card, by its number.
+    /// What is recorded for each card, by its number.
     pub linked: Linked,
 }
 
-/// The cards in the bytes of a manifest, if each of the ballots, of a file with this name, has one.
+/// Returns the cards in the bytes of a manifest, if each ballot of the file with this name has a card.
 pub fn cards_for(
     alloc: Global,
     file: &FileName,
@@ -45,7 +45,7 @@ pub fn cards_for(
     })
 }
 
-// What is recorded of the cards of a manifest.
+// What is recorded for the cards of a manifest.
 fn linked_to(
     alloc: Global,
     file: &FileName,

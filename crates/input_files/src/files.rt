@@ -28,7 +28,7 @@ use manifest::{Manifest, read_manifest};
 use seen_file::{SeenCards, read_seen};
 use std::alloc::Global;
 
-/// All bytes of the file with this name, or why the call stops there.
+/// Returns all bytes of the file with this name, or why the call stops there.
 pub fn bytes_of<D: Desk>(alloc: Global, desk: &mut D, file: &FileName) -> Result<Vec<u8>, Refusal>
     ensures held { D.held desk.new ≡ D.held desk.old }
     ensures faults { IsFaultTold (D.faults desk.old) (D.faults desk.new) (status_so_far result) }
@@ -41,7 +41,8 @@ pub fn bytes_of<D: Desk>(alloc: Global, desk: &mut D, file: &FileName) -> Result
     read_whole(alloc, desk, file.as_str())
 }
 
-/// The ballots of the contest with this id, or of the only one, in the bytes of the file with this name; or the rule that refuses them.
+/// Returns the ballots of the contest with this id, or of the only contest, in the bytes of the file with this name, or the rule that
+/// refuses the bytes.
 pub fn ballots_in(
     alloc: Global,
     file: &FileName,
@@ -57,7 +58,7 @@ pub fn ballots_in(
     }
 }
 
-/// The ballots of each contest, in their order, in the bytes of the file with this name; or the rule that refuses them.
+/// Returns the ballots of each contest, in order, in the bytes of the file with this name, or the rule that refuses the bytes.
 pub fn contests_in(alloc: Global, file: &FileName, bytes: &[u8]) -> Result<Vec<Ballots>, Refusal>
     ensures read { IfOk result (λ list.
         told (refused_ballots file.now) (contests_of bytes.now) ≡ Ok list.items) }
@@ -70,7 +71,7 @@ pub fn contests_in(alloc: Global, file: &FileName, bytes: &[u8]) -> Result<Vec<B
     }
 }
 
-/// The manifest in the bytes of the file with this name, or the rule that refuses them.
+/// Returns the manifest in the bytes of the file with this name, or the rule that refuses the bytes.
 pub fn manifest_in(alloc: Global, file: &FileName, bytes: &[u8]) -> Result<Manifest, Refusal>
     ensures { IsJudged (told (refused_manifest file.now) (manifest_of bytes.now)) result }
 {
@@ -80,7 +81,7 @@ pub fn manifest_in(alloc: Global, file: &FileName, bytes: &[u8]) -> Result<Manif
     }
 }
 
-/// The assertions in the bytes of the file with this name, or the rule that refuses them.
+/// Returns the assertions in the bytes of the file with this name, or the rule that refuses the bytes.
 pub fn assertions_in(alloc: Global, file: &FileName, bytes: &[u8]) -> Result<AssertionFile, Refusal>
     ensures { IsJudged (told (refused_assertions file.now) (assertion_file_of bytes.now)) result }
 {
@@ -90,7 +91,8 @@ pub fn assertions_in(alloc: Global, file: &FileName, bytes: &[u8]) -> Result<Ass
     }
 }
 
-/// The claims for the contest with this id and these candidates in the bytes of the file with this name, or the rule that refuses them.
+/// Returns the claims for the contest with this id and these candidates in the bytes of the file with this name, or the rule that refuses
+/// the bytes.
 pub fn claims_in(
     alloc: Global,
     file: &FileName,
@@ -110,7 +112,7 @@ pub fn claims_in(
     }
 }
 
-/// What is seen of the manifest's cards in the bytes of the file with this name, or the rule that refuses them.
+/// Returns what the bytes of the file with this name say was seen of the manifest's cards, or the rule that refuses the bytes.
 pub fn seen_in(
     alloc: Global,
     file: &FileName,

@@ -1,4 +1,4 @@
-// What is wrong with a file is reported under its name.
+// Reports what is wrong with a file under the file's name.
 ghost use Rattle.std.specs.Prelude.{◌≡◌, List, ℕ, IfOk, string_bytes};
 ghost use Rattle.cli_base.specs.Due.{due_refusal, IsOrMemory};
 ghost use Rattle.cli_base.specs.Outcome.{Refused, outcome};
@@ -10,7 +10,7 @@ use command::FileName;
 use file_fault::{Fault, Rule};
 use std::alloc::{AllocError, Global};
 
-/// A refusal of the file with this name, which isn't read for that fault.
+/// Returns a refusal of the file with this name, which isn't read because of this fault.
 pub fn refuse_file<R: Rule>(alloc: Global, file: &FileName, fault: Fault<R>) -> Refusal
     ensures { IsTold (refused_fault R.name file.now fault) (due_refusal result) }
 {
@@ -20,7 +20,7 @@ pub fn refuse_file<R: Rule>(alloc: Global, file: &FileName, fault: Fault<R>) -> 
     }
 }
 
-/// A refusal of the file with this name, for the reason that the text gives.
+/// Returns a refusal of the file with this name, for the reason that the text gives.
 pub fn refuse_for(alloc: Global, file: &FileName, text: Result<String, AllocError>) -> Refusal
     ensures { (message : List ℕ) → IfOk text (λ text. string_bytes text ≡ message)
         → IsOrMemory (outcome (Refused file.now message)) (due_refusal result) }
@@ -31,7 +31,7 @@ pub fn refuse_for(alloc: Global, file: &FileName, text: Result<String, AllocErro
     }
 }
 
-/// A seen file has no record of the card of draw `k`.
+/// The text that a seen file has no record of the card of draw `k`.
 pub fn no_record_text(alloc: Global, card: u32, k: u32) -> Result<String, AllocError>
     ensures { IfOk result (λ text. string_bytes text ≡ no_record_text card k) }
 {

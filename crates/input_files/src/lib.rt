@@ -1,4 +1,4 @@
-//! The files of a command, read and judged: what they say, or a refusal that names the file, the rule and the place.
+//! Reads and judges the files of a command. The result is what they say, or a refusal that names the file, the rule and the place.
 #![tactic(auto)]
 
 mod cards;

@@ -20,10 +20,10 @@ use irv_base::{Memory, Name};
 use std::thread;
 use std::thread::Threads;
 
-/// At most this many workers read a ballot file at the same time: more would wait for its bytes, which only one thread asks for.
+/// At most this many workers read a ballot file at the same time. More workers would wait for its bytes, which only one thread requests.
 pub const MOST_READERS: u32 = 4;
 
-/// The default number of workers that read a ballot file: as many as there are processors, `MOST_READERS` at most.
+/// The default number of workers that read a ballot file: the number of processors, but at most `MOST_READERS`.
 pub fn readers_at_hand<R: Threads>(rt: &R) -> u32
     ensures some { 1 ≤ result }
     ensures most { result ≤ MOST_READERS }
@@ -34,7 +34,7 @@ pub fn readers_at_hand<R: Threads>(rt: &R) -> u32
     }
 }
 
-// What the votes are read by.
+// The reader of the votes.
 #[derive(Drop)]
 struct VotesTaker<'r, R: Threads + Sync> {
     reader: VotesReader<'r, R>,
@@ -52,8 +52,8 @@ impl<'r, R: Threads + Sync> Taker for VotesTaker<'r, R> {
     }
 }
 
-/// The votes of the contest with this id, or of the only one, in the file with this name, read by this many workers; or why the call
-/// stops there. No more of the file is held than `VotesReader` keeps.
+/// Returns the votes of the contest with this id, or of the only contest, in the file with this name, or why the call stops there. This
+/// many workers read the file. No more of the file is kept in memory than `VotesReader` keeps.
 pub fn votes_of_file<R: AllocGlobal + Threads + Sync, D: Desk>(
     rt: &R,
     desk: &mut D,

@@ -1,4 +1,4 @@
--- Lists that are kept one behind the other.
+-- Lists that are stored back to back.
 use Rattle.std.proofs.Common.{◌≡◌, ◌≤◌, ◌<◌, ◌+◌, ◌-◌, ◌∙◌, ◌++◌, ◌∷◌, [], ℕ, zero, suc, List, Some, length, take, drop, get_or, refl, sym, ap, subst, arith, length-append}
 use Rattle.std.specs.Prelude.{All}
 use Rattle.std.specs.List.{slice_get}
@@ -12,14 +12,14 @@ pub end-within : (begins : List ℕ) (n : ℕ) → AreBegins begins n → end_be
 end-within [] n h = omega arith
 end-within (b ∷ begins) n (low, h) = omega (arith, low, end-within begins n h)
 
--- what is put behind the elements leaves a list before them as it is
+-- what is added after the elements leaves a list before them unchanged
 pub same-part : {X : Type 0} (elements more : List X) (begin end : ℕ) → begin ≤ end → end ≤ length elements →
     take (end - begin) (drop begin (elements ++ more)) ≡ take (end - begin) (drop begin elements)
 same-part elements more begin end rise within =
     ap (take (end - begin)) (drop-append-le begin elements more (omega (arith, rise, within)))
     ∙ take-append-le (end - begin) (drop begin elements) more (omega (arith, rise, within, length-drop begin elements))
 
--- ---- one list more
+-- ---- one more list
 
 end-more : (begins : List ℕ) (n m : ℕ) → end_before (begins ++ n ∷ []) m ≡ end_before begins n
 end-more [] n m = refl
@@ -44,7 +44,7 @@ between-more (b ∷ begins) elements list (low, h) =
     ap (λ xs. xs ∷ lists_between (begins ++ length elements ∷ []) (elements ++ list)) first
     ∙ ap (λ xs. take (end - b) (drop b elements) ∷ xs) (between-more begins elements list h)
 
--- as the code comes to know it
+-- as the code learns it
 pub pushed-begins : {X : Type 0} (old begins : List ℕ) (elements more list : List X) (n : ℕ) → ArePlaces old (length elements) →
     begins ≡ old ++ n ∷ [] → more ≡ elements ++ list → n ≡ length elements → ArePlaces begins (length more)
 pushed-begins old begins elements more list n h e f size =
@@ -60,7 +60,7 @@ pushed-lists old begins elements more list n h e f size =
     ap (λ bs. lists_between bs more) (e ∙ ap (λ k. old ++ k ∷ []) size) ∙ ap (lists_between (old ++ length elements ∷ [])) f
     ∙ between-more old elements list h
 
--- ---- an element more in the last list
+-- ---- one more element in the last list
 
 rise-longer : (begins : List ℕ) (n m : ℕ) → AreBegins begins n → n ≤ m → AreBegins begins m
 rise-longer [] n m h more = tt
@@ -94,7 +94,7 @@ between-longer (b ∷ c ∷ begins) elements x (y ∷ earlier) last (low, h) e =
     ap (λ xs. xs ∷ lists_between (c ∷ begins) (elements ++ x ∷ [])) first
     ∙ ap (λ xs. y ∷ xs) (between-longer (c ∷ begins) elements x earlier last h rest)
 
--- as the code comes to know it
+-- as the code learns it
 pub longer-length : {X : Type 0} (elements more : List X) (x : X) → more ≡ elements ++ x ∷ [] → length elements ≤ length more
 longer-length elements more x e = omega (arith, ap length e, length-append elements (x ∷ []))
 
@@ -128,12 +128,12 @@ between-at (b ∷ begins) elements (suc i) (low, h) less =
     let later = between-at begins elements i h (omega (arith, less)) in
     record { rise = later.rise; within = later.within; is = later.is }
 
--- as the code comes to know it
+-- as the code learns it
 pub list-at : {X : Type 0} (begins : List ℕ) (elements : List X) (i end : ℕ) → AreBegins begins (length elements) → i < length begins →
     end ≡ get_or begins (i + 1) (length elements) → IsBetween begins elements i end
 list-at begins elements i end h less e =
     subst (IsBetween begins elements i) (ap (λ k. get_or begins k (length elements)) (omega arith) ∙ sym e) (between-at begins elements i h less)
 
--- what holds of all holds of the one at a place
+-- what holds for all elements holds for the one at a place
 pub all-at : {X : Type 0} (P : X → Type 0) (xs : List X) (i : ℕ) (x : X) → slice_get xs i ≡ Some x → All P xs → P x
 all-at P xs i x there all = subst P (get_or_from_slice_get xs i x x there) (All-get_or P xs i x (slice_get_within xs i x there) all)

@@ -1,4 +1,4 @@
--- One candidate more, or one less, in the number of a set.
+-- One more candidate, or one less, in the number of a set.
 use Rattle.std.proofs.Common.{◌≡◌, ℕ, ◌+◌, ◌*◌, ◌%◌, ◌^◌, ◌<◌, Bool, true, false, not, ◌==◌, ◌&&◌, ◌||◌, inl, inr, bit_or, bit_xor, refl, sym, ap, arith, eq-eqb, ne_eqb, eqb-true, mod-eq_of_lt, ◌∙◌}
 use Rattle.std.specs.Int.{bit_at}
 use Rattle.std.proofs.lemmas.Bool.{cases_eq, or_right, eqb-false}
@@ -42,7 +42,7 @@ has-with s c d =
 pub with-number : (s c : ℕ) → has s c ≡ false → bit_or s (2 ^ c) ≡ s + 2 ^ c
 with-number s c h = or_disjoint s (2 ^ c) (and_pow s c ∙ ap (λ x. x * 2 ^ c) (bit_at-absent s c h) ∙ omega arith)
 
--- `s ^ 1 << c` of a member
+-- `s ^ 1 << c` for a member
 pub has-without : (s c d : ℕ) → has s c ≡ true → has (bit_xor s (2 ^ c)) d ≡ (has s d && not (d == c))
 has-without s c d h =
     elim (cases_eq d c) [

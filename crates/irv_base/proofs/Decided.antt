@@ -12,7 +12,7 @@ use Rattle.irv_base.proofs.Sames.{Same, set_of-same}
 use Rattle.irv_base.proofs.Tabulated.{tabulated-possible}
 use Rattle.irv_base.proofs.Possible.{possible-other, order-other, votes-may, may-votes, no_tie_is_one_possible}
 
--- the one that is left last is one
+-- only one candidate is left last
 pub elects-same : (before before' : List ℕ) (c d : ℕ) → before ++ c ∷ [] ≡ before' ++ d ∷ [] → c ≡ d
 elects-same [] [] c d e = cc
 elects-same [] (y ∷ []) c d e = cc
@@ -58,7 +58,7 @@ exchanged a b = record { left = λ c m. turned m; right = λ c m. turned m } whe
         | inr r ↦ elim (member_cases r) [ inl e ↦ member_at e | inr q ↦ absurd (member_nil q) ]
       ]
 
--- the other of the last two may go first exactly where it has no more votes
+-- the other of the last two may go first exactly if it has no more votes
 module _ (n a b : ℕ) (records : List (List ℕ)) (before : List ℕ) (o : is_order n (before ++ a ∷ b ∷ []) ≡ true)
     (p : is_possible records (before ++ a ∷ b ∷ []) ≡ true) where
   abbrev votes : ℕ → ℕ

@@ -1,4 +1,4 @@
--- Lists in which nothing stands twice, of candidates and of other things.
+-- Lists in which nothing appears twice, for candidates and for other things.
 use Rattle.std.proofs.Common.{◌≡◌, ℕ, zero, suc, ◌+◌, ◌<◌, ◌≤◌, true, not, nat_lt, ◌⊎◌, inl, inr, List, [], ◌∷◌, ◌++◌, length, refl, sym, ap, subst, arith, ltb-true}
 use Rattle.std.specs.List.{list_all, range_with_len}
 use Rattle.std.proofs.lemmas.Bool.{and_parts, and_from, cases_Bool, not-true}
@@ -15,7 +15,7 @@ distinct-head (more h d) = h
 pub distinct-tail : {X : Type 0} {c : X} {cs : List X} → Distinct (c ∷ cs) → Distinct cs
 distinct-tail (more h d) = d
 
--- a place of a distinct list: its element isn't before it
+-- a place of a distinct list: its element doesn't appear before it
 pub distinct-split : {X : Type 0} (before : List X) (c : X) (rest : List X) → Distinct (before ++ c ∷ rest) → Distinct before × (Member c before → ⊥)
 distinct-split [] c rest d = (none, member_nil)
 distinct-split (b ∷ before) c rest d =
@@ -55,7 +55,7 @@ shorter {x} (there {y = y} {xs = xs} m) =
       ],
     )
 
--- distinct elements of another list are at most as many
+-- distinct elements of another list are at most as many as that list has
 pub distinct-le : {X : Type 0} (xs ys : List X) → Distinct xs → ((z : X) → Member z xs → Member z ys) → length xs ≤ length ys
 distinct-le [] ys d h = omega arith
 distinct-le {X} (x ∷ xs) ys d h =
@@ -89,7 +89,7 @@ pub distinct-range : (a n : ℕ) → Distinct (range_with_len a n)
 distinct-range a zero = none
 distinct-range a (suc n) = more (λ m. let h = from_range a (a + 1) n m in absurd (omega arith)) (distinct-range (a + 1) n)
 
--- ---- one more at the end
+-- ---- one more element at the end
 pub distinct-push : {X : Type 0} (xs : List X) (c : X) → Distinct xs → (Member c xs → ⊥) → Distinct (xs ++ c ∷ [])
 distinct-push [] c d out = more member_nil none
 distinct-push (x ∷ xs) c d out =

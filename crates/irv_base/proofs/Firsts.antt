@@ -1,4 +1,4 @@
--- Lists of candidates of which each counts at its first place alone.
+-- Lists of candidates, each of whom counts only at its first place.
 use Rattle.std.proofs.Common.{◌≡◌, ◌++◌, ◌∷◌, [], ◌∙◌, ◌+◌, ◌<◌, ◌||◌, ◌==◌, not, ℕ, Bool, true, false, List, length, take, get_or, refl, sym, ap, inl, inr, arith}
 use Rattle.std.specs.Prelude.{filter, if◌then◌else◌}
 use Rattle.std.proofs.lemmas.Bool.{and_parts, cases_Bool, both_ways, ne_eqb, not-true}
@@ -59,7 +59,7 @@ firsts-again (a ∷ cs) c h = elim (cases_Bool (a == c)) [
       ∙ ap (λ b. b || is_in (filter (λ e. not (e == a)) (firsts cs)) c) (sym f) ∙ h))
 ]
 
--- as the code comes to know it
+-- as the code learns it
 pub firsts-step : (cs : List ℕ) (i c : ℕ) (old new : List ℕ) → i < length cs → c ≡ get_or cs i c → old ≡ firsts (take i cs)
     → (is_in old c ≡ false → new ≡ old ++ c ∷ []) → (is_in old c ≡ true → new ≡ old) → new ≡ firsts (take (i + 1) cs)
 firsts-step cs i c old new l at seen added kept = step ∙ ap firsts (sym more) where
@@ -86,7 +86,7 @@ firsts-distinct (c ∷ cs) h =
     let (out, rest) = and_parts (not (is_in cs c)) (is_distinct cs) h in
     ap (λ ds. c ∷ filter (λ d. not (d == c)) ds) (firsts-distinct cs rest) ∙ ap (λ ds. c ∷ ds) (filter-absent cs c (not-true (is_in cs c) out))
 
--- ---- one more
+-- ---- one more candidate
 
 pub is_in-push : (cs : List ℕ) (c d : ℕ) → is_in (cs ++ c ∷ []) d ≡ (is_in cs d || (d == c))
 is_in-push [] c d = or-none (c == d) ∙ eqb-sym c d

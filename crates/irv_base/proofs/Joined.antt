@@ -1,4 +1,4 @@
--- Lists that are put behind others: each begins as far behind as there are elements before them all.
+-- Lists that are added after others: each begin moves up by the number of elements before them all.
 use Rattle.std.proofs.Common.{◌≡◌, ◌<◌, ◌+◌, ◌-◌, ◌∙◌, ◌++◌, ◌∷◌, [], ℕ, zero, suc, List, length, map, take, drop, get_or, refl, sym, ap, ap₂, subst, arith, length-append}
 use Rattle.std.proofs.Math.Seq.{drop-append-add}
 use Rattle.irv_base.specs.Lists.{AreBegins, ArePlaces, end_before, lists_between}
@@ -52,7 +52,7 @@ between-joined (b ∷ begins) later elements more (low, h) first =
     ap (λ xs. xs ∷ lists_between all (elements ++ more)) one
     ∙ ap (λ xs. take (end - b) (drop b elements) ∷ xs) (between-joined begins later elements more h first)
 
--- ---- as the code comes to know it
+-- ---- as the code learns it
 
 pub begins-fit : (begins : List ℕ) (n m most : ℕ) → AreBegins begins m → n + m < most →
     (i d : ℕ) → i < length begins → n + get_or begins i d < most

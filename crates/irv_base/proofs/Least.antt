@@ -1,4 +1,4 @@
--- The least of a list, by membership.
+-- The smallest number of a list, by membership.
 use Rattle.std.proofs.Common.{◌≡◌, ℕ, ◌≤◌, min, ◌⊎◌, inl, inr, List, [], ◌∷◌, fold, refl, sym, arith}
 use Rattle.std.proofs.lemmas.Bool.{cases_lt}
 use Rattle.irv_base.specs.Tabulation.{least}

@@ -1,4 +1,4 @@
--- Rankings, the last of which gets a candidate more.
+-- Rankings whose last one gets one more candidate.
 use Rattle.std.proofs.Common.{◌≡◌, ◌<◌, ◌++◌, ◌∷◌, [], ℕ, false, List, Some, refl, arith, length, length-append}
 use Rattle.std.specs.Prelude.{All, IsTrue}
 use Rattle.std.proofs.lemmas.List.Elements.{All-pop, All-push}

@@ -1,4 +1,4 @@
--- Who loses a round: the first of those with the least tally, by number.
+-- Who loses a round: the first, by number, of those with the smallest tally.
 use Rattle.std.proofs.Common.{◌≡◌, ◌≢◌, ℕ, ◌<◌, ◌≤◌, ◌&&◌, ◌==◌, true, false, nat_lt, nat_le, inl, inr, ◌⊎◌, List, [], ◌∷◌, length, map, refl, sym, ap, subst, arith, eq-eqb, eqb-true, lt-ltb, ltb-true, le-leb, leb-true, ◌∙◌}
 use Rattle.std.proofs.lemmas.Bool.{and_parts, and_from, or_cases, or_left, or_right, both_ways, cases_Bool, cases_eq, cases_lt}
 use Rattle.std.specs.List.{list_all}
@@ -52,7 +52,7 @@ loser-may_lose records c others h =
     let votes : ℕ → ℕ = tally records (set_of (c ∷ others)) in
     list_all-each (λ d. nat_le (votes c) (votes d)) others (λ d m. le-leb (votes c) (votes d) (loser-goes records c others d h m).fewer)
 
--- of several candidates one goes before each other
+-- one of several candidates goes before each of the others
 pub first_of : (votes : ℕ → ℕ) (x : ℕ) (xs : List ℕ) → (c : ℕ) × Member c (x ∷ xs) × ((d : ℕ) → Member d (x ∷ xs) → d ≢ c → Goes votes c d)
 first_of votes x [] = (x, here, λ d m ne. elim (member_cases m) [ inl e ↦ absurd (ne (sym e)) | inr r ↦ absurd (member_nil r) ])
 first_of votes x (y ∷ ys) = go (first_of votes y ys) where
@@ -90,7 +90,7 @@ first_of votes x (y ∷ ys) = go (first_of votes y ys) where
         )
       ]
     where
-      -- who doesn't go before c comes after it
+      -- a candidate who doesn't go before c comes after it
       instead : (x c : ℕ) → goes_before votes x c ≡ false → x ≢ c → Goes votes c x
       instead x c after apart =
           elim (cases_lt (votes x) (votes c)) [
@@ -107,7 +107,7 @@ first_of votes x (y ∷ ys) = go (first_of votes y ys) where
           ]
 
 -- ---- ties
--- the loser's tally is the least
+-- the loser's tally is the smallest
 pub loser-least : (records : List (List ℕ)) (c : ℕ) (others : List ℕ) → loses records c others ≡ true →
     tally records (set_of (c ∷ others)) c ≡ least_tally records (c ∷ others)
 loser-least records c others h =
@@ -119,7 +119,7 @@ loser-least records c others h =
       | inr r ↦ let f = (loser-goes records c others d h r).fewer in omega (arith, le, e, f)
     ]
 
--- of two or more, one that isn't c
+-- one of two or more that isn't c
 pub one-apart : (c : ℕ) (xs : List ℕ) → Distinct xs → 2 ≤ length xs → (d : ℕ) × Member d xs × (d ≢ c)
 one-apart c [] d l = absurd (omega arith)
 one-apart c (a ∷ []) d l = absurd (omega arith)
@@ -129,7 +129,7 @@ one-apart c (a ∷ b ∷ rest) d l =
       | inr ne ↦ (a, here, ne)
     ]
 
--- where there is a tie, another candidate shares the loser's tally
+-- if there is a tie, another candidate shares the loser's tally
 pub tied-other : (records : List (List ℕ)) (c : ℕ) (others : List ℕ) → Distinct (c ∷ others) → is_tied records (c ∷ others) ≡ true →
     (d : ℕ) × Member d others × (tally records (set_of (c ∷ others)) d ≡ least_tally records (c ∷ others))
 tied-other records c others apart t =
@@ -139,7 +139,7 @@ tied-other records c others apart t =
     let (inside, e) = from_filter (λ c. tally records (set_of cs) c == least_tally records cs) cs m in
     (d, elim (member_cases inside) [ inl s ↦ absurd (ne (sym s)) | inr r ↦ r ], eqb-true (tally records (set_of cs) d) (least_tally records cs) e)
 
--- and where another does, there is one
+-- if another candidate shares the loser's tally, there is a tie
 pub other-tied : (records : List (List ℕ)) (c d : ℕ) (others : List ℕ) → Distinct (c ∷ others) → Member d others →
     tally records (set_of (c ∷ others)) c ≡ least_tally records (c ∷ others) → tally records (set_of (c ∷ others)) d ≡ least_tally records (c ∷ others) →
     is_tied records (c ∷ others) ≡ true

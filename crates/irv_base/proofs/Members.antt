@@ -1,4 +1,4 @@
--- Membership as a fact to match on, and what it says of the list functions that the definitions are made of.
+-- Membership as a fact to match on, and what it says about the list functions from which the definitions are built.
 use Rattle.std.proofs.Common.{◌≡◌, ℕ, zero, suc, ◌+◌, ◌<◌, ◌≤◌, Bool, true, false, cond, ◌==◌, ◌⊎◌, inl, inr, List, [], ◌∷◌, ◌++◌, map, length, get_or, filter, flat_map, find, Contains, Some, refl, sym, ap, subst, arith, eqb-true, eq-eqb, ◌∙◌}
 use Rattle.std.specs.List.{list_any, list_all, range_with_len}
 use Rattle.std.proofs.lemmas.Bool.{and_parts, and_from, or_cases, or_left, or_right, cases_Bool, both_ways}

@@ -1,4 +1,4 @@
--- Orders: a list of n that has each of n candidates has each once, and no other.
+-- Orders: a list of n candidates that has each of n candidates has each of them once, and no others.
 use Rattle.std.proofs.Common.{◌≡◌, ℕ, ◌<◌, ◌≤◌, true, ◌==◌, inl, inr, List, [], ◌∷◌, ◌++◌, length, refl, ap, subst, arith, eq-eqb, eqb-true}
 use Rattle.std.specs.List.{list_all}
 use Rattle.std.proofs.lemmas.Bool.{and_parts, and_from, cases_Bool, cases_lt}

@@ -1,4 +1,4 @@
--- Lists that are kept in an array with room for more, padded with zeros.
+-- Lists that are stored in an array with room for more, padded with zeros.
 use Rattle.std.proofs.Common.{◌≡◌, ℕ, suc, zero, ◌+◌, ◌-◌, ◌<◌, ◌≤◌, Bool, true, false, inl, inr, List, [], ◌∷◌, ◌++◌, All, length, set, take, drop, get_or, replicate, refl, sym, ap, subst, arith, ltb-true, length-append, append_assoc, add-one, ◌∙◌}
 use Rattle.std.proofs.Math.Seq.{take-length}
 use Rattle.std.proofs.lemmas.List.{take_more, length-replicate, get_or_default, drop-replicate}
@@ -17,7 +17,7 @@ take-whole [] ys (suc n) h = cc
 take-whole (x ∷ xs) ys zero h = cc
 take-whole (x ∷ xs) ys (suc n) h = ap (λ s. x ∷ s) (take-whole xs ys n (omega arith))
 
--- one more at the end
+-- one more element at the end
 pub set-end : (xs ys : List ℕ) (n x y : ℕ) → length xs ≡ n → set (xs ++ x ∷ ys) n y ≡ xs ++ y ∷ ys
 set-end [] ys zero x y h = refl
 set-end [] ys (suc n) x y h = cc
@@ -32,7 +32,7 @@ set-padded xs places room n y long l e =
     ∙ set-end xs (replicate (room - (n + 1)) 0) n 0 y long ∙ sym (append_assoc xs (y ∷ []) (replicate (room - (n + 1)) 0))
 
 -- ---- rankings
--- distinct candidates with another one apart leave room
+-- distinct candidates, with a further one apart from them, leave room
 pub room-for_more : (room c : ℕ) (xs : List ℕ) → Distinct xs → ((d : ℕ) → Member d xs → d < room) → (Member c xs → ⊥) → c < room → length xs < room
 room-for_more room c xs apart below out l =
     let le : length (c ∷ xs) ≤ length (candidates room) = distinct-le (c ∷ xs) (candidates room) (more out apart)
@@ -78,12 +78,12 @@ ranking_pushed len c places r out l = record {
         ap (take (len + 1)) (set-padded kept places ROOM len c r.long room r.padded)
         ∙ take-whole (kept ++ c ∷ []) (replicate (ROOM - (len + 1)) 0) (len + 1) (length-append kept (c ∷ []) ∙ omega (arith, r.long))
 
--- as the code comes to know it
+-- as the code learns it
 pub pushed : (len c : ℕ) (places now : List ℕ) → IsRanking len places → take len places ≡ now → c < ROOM → is_in now c ≡ false → Pushed len c places
 pushed len c places now r e below absent = ranking_pushed len c places r (ap (λ s. is_in s c) e ∙ absent) below
 
 -- ---- orders
--- sound places make a list of candidates none of which stands twice
+-- sound places make a list of candidates, none of whom appears twice
 distinct_places : (list : List ℕ) → ((k : ℕ) → k < length list → is_repeated list k ≡ false) → (i : ℕ) → i ≤ length list → Distinct (take i list)
 distinct_places list h zero l = none
 distinct_places list h (suc i) l =
@@ -112,7 +112,7 @@ filled_order list places filled some room order =
       same,
     )
 
--- as the code makes it of a list of all
+-- as the code makes it from a list of all candidates
 pub copied_order : (list copied blank : List ℕ) → copied ≡ list → blank ≡ replicate ROOM 0 → 0 < length list → length list ≤ ROOM →
     is_order (length list) list ≡ true →
     let places = copied ++ drop (length list) blank in

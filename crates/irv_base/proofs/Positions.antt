@@ -37,7 +37,7 @@ some_position p (x ∷ xs) = elim (cases_Bool (p x)) [
     shifted None = refl
     shifted (Some i) = refl
 
--- there is one exactly where the place is one of the list
+-- there is one exactly if the place is a place of the list
 pub any-place : {X : Type 0} (p : X → Bool) (xs : List X) → list_any p xs ≡ nat_lt (position_or_len p xs) (length xs)
 any-place p xs = sym (some_position p xs) ∙ by (nat_lt (position_or_len p xs) (length xs)) where
   by : (b : Bool) → is_some (cond b (Some (position_or_len p xs)) None) ≡ b
@@ -64,7 +64,7 @@ stands_at p xs i d h =
 pub stands_nowhere : {X : Type 0} (p : X → Bool) (xs : List X) → position p xs ≡ None → list_any p xs ≡ false
 stands_nowhere p xs h = sym (some_position p xs) ∙ ap is_some h
 
--- ---- what stands there
+-- ---- what is at the place
 pub found_at : {X : Type 0} (p : X → Bool) (xs : List X) (k : ℕ) → position p xs ≡ Some k → find p xs ≡ slice_get xs k
 found_at p xs k h = find_at p xs ∙ ap (slice_get xs) (place (nat_lt (position_or_len p xs) (length xs)) h) where
   place : (b : Bool) → cond b (Some (position_or_len p xs)) None ≡ Some k → position_or_len p xs ≡ k
@@ -76,7 +76,7 @@ found_none p xs h = find_at p xs ∙ slice_get_past xs (position_or_len p xs) (p
   past : (a n : ℕ) → cond (nat_lt a n) (Some a) None ≡ None → n ≤ a
   past a n e = grind arith
 
--- ---- of a list followed by another
+-- ---- for a list followed by another
 pub some_first : {X : Type 0} (p : X → Bool) (xs ys : List X) (i : ℕ) → position p xs ≡ Some i → position p (xs ++ ys) ≡ Some i
 some_first p [] ys i h = absurd cc
 some_first p (x ∷ xs) ys i h = by (p x) refl (some_first p xs ys) where

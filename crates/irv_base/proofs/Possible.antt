@@ -1,4 +1,4 @@
--- Other possible orders: there are some exactly where there is a tie.
+-- Other possible orders: there are some exactly if there is a tie.
 use Rattle.std.proofs.Common.{◌≡◌, ◌≢◌, ◌↔◌, ℕ, zero, suc, ◌<◌, ◌≤◌, ◌&&◌, ◌==◌, not, Bool, true, false, nat_le, inl, inr, List, [], ◌∷◌, ◌++◌, length, take, drop, filter, refl, sym, ap, subst, arith, le-leb, leb-true, take-append-drop, ◌∙◌}
 use Rattle.std.proofs.lemmas.Bool.{and_parts, and_from, both_ways, cases_Bool, cases_eq}
 use Rattle.irv_base.specs.Candidates.{candidates, set_of}
@@ -84,7 +84,7 @@ order-other n before t t' h d' s =
     (record { left = λ c m. all.left c (o.whole c (from_candidates m)); right = λ c m. candidate-member c n (o.below c (all.right c m)) })
     (distinct-other before t t' o.apart d' s)
 
--- ---- where there is a tie, another may go
+-- ---- if there is a tie, another candidate may go
 cancel : (before : List ℕ) (t t' : List ℕ) → before ++ t ≡ before ++ t' → t ≡ t'
 cancel [] t t' e = e
 cancel (b ∷ before) t t' e = cancel before t t' (tails e) where

@@ -1,4 +1,4 @@
--- Lists of the same candidates: they have the same set, the same least tally, and the same candidates who share it.
+-- Lists of the same candidates: they have the same set, the same smallest tally, and the same candidates who share it.
 use Rattle.std.proofs.Common.{◌≡◌, ℕ, ◌≤◌, Bool, true, false, cond, ◌==◌, inl, inr, List, [], ◌∷◌, map, filter, refl, sym, ap, arith, eqb-true, eq-eqb, le_antisymm, ◌∙◌}
 use Rattle.std.proofs.lemmas.Bool.{cases_Bool}
 use Rattle.irv_base.specs.Candidates.{is_in, set_of}
@@ -26,7 +26,7 @@ set_of-same xs ys dx dy s = set_of_is (set_of xs) ys dy (λ c. has-set_of xs c d
         | inr f ↦ f ∙ sym (out-from_none c ys (λ m. none-from_out f (s.right c m)))
       ]
 
--- ---- those who share the least tally
+-- ---- those who share the smallest tally
 pub least-le : (records : List (List ℕ)) (cs : List ℕ) (c : ℕ) → Member c cs → least_tally records cs ≤ tally records (set_of cs) c
 least-le records cs c m = least-member (tally records (set_of cs) c) (map (tally records (set_of cs)) cs) (member-map (tally records (set_of cs)) m)
 

@@ -69,7 +69,7 @@ has-set_of cs c d =
       | inr f ↦ ap (λ b. b == 1) (bit_at-out cs c d (none-from_out f)) ∙ sym f
     ]
 
--- a number that has just these candidates is their set
+-- a number that has exactly these candidates is the number of their set
 pub set_of_is : (s : ℕ) (cs : List ℕ) → Distinct cs → ((c : ℕ) → has s c ≡ is_in cs c) → s ≡ set_of cs
 set_of_is s cs d h = same_from_bits s (set_of cs) (λ c. same_bit (bit_at s c) (bit_at (set_of cs) c) (bit_at-lt s c) (bit_at-lt (set_of cs) c) (h c
     ∙ sym (has-set_of cs c d)))

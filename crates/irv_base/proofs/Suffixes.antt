@@ -1,4 +1,4 @@
--- Suffixes, and the arrays that they are kept in.
+-- Suffixes, and the arrays in which they are stored.
 use Rattle.std.proofs.Common.{◌≡◌, ℕ, zero, suc, ◌+◌, ◌-◌, ◌^◌, ◌<◌, ◌≤◌, true, false, not, nat_lt, List, [], ◌∷◌, ◌++◌, length, take, drop, set, get_or, replicate, refl, inl, inr, sym, ap, subst, arith, lt-ltb, ltb-true, length-append, ◌∙◌}
 use Rattle.std.specs.List.{list_all}
 use Rattle.std.proofs.lemmas.List.{length-replicate}
@@ -30,7 +30,7 @@ suffix_more n c t l out h =
     (and_from (not (is_in t c)) (is_distinct t) (not_from_false (is_in t c) out) d)
     (and_from (nat_lt c n) (list_all (λ c. nat_lt c n) t) (lt-ltb c n l) b)
 
--- the first candidate of a suffix, and those behind it
+-- the first candidate of a suffix, and those after it
 pub suffix-head : (n c : ℕ) (t : List ℕ) → is_suffix n (c ∷ t) ≡ true → (c < n) × (is_in t c ≡ false)
 suffix-head n c t h =
     let (d, b) = and_parts (is_distinct (c ∷ t)) (list_all (λ c. nat_lt c n) (c ∷ t)) h in (

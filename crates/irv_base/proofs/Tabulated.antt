@@ -89,7 +89,7 @@ pub record Tabulated (records : List (List ℕ)) (xs : List ℕ) : Type 0 where
   pub apart : Distinct order
   pub tabulated : is_tabulated records order ≡ true
 
--- the first with the least tally goes, and then the rest
+-- the first candidate with the smallest tally goes, and then the rest
 goes : (records : List (List ℕ)) (x : ℕ) (xs : List ℕ) (c : ℕ) → Distinct (x ∷ xs) → Member c (x ∷ xs) →
     ((d : ℕ) → Member d (x ∷ xs) → d ≢ c → Goes (tally records (set_of (x ∷ xs))) c d) → Tabulated records (others c (x ∷ xs)) → Tabulated records (x ∷ xs)
 goes records x xs c dx m first t =

@@ -1,4 +1,4 @@
--- The first tie of the tabulated order: there is one or none.
+-- The first tie of the tabulated order: there is one, or there is none.
 use Rattle.std.proofs.Common.{◌≡◌, ◌↔◌, ℕ, zero, suc, ◌+◌, ◌-◌, ◌<◌, ◌≤◌, ◌&&◌, Bool, true, false, inl, inr, ◌⊎◌, List, [], ◌∷◌, drop, refl, sym, ap, subst, arith, ◌∙◌}
 use Rattle.std.proofs.lemmas.Bool.{and_parts, and_from, both_ways, cases_Bool, cases_lt}
 use Rattle.irv_base.specs.Candidates.{set_of}

@@ -12,7 +12,7 @@ all_but n winner = filter (λ c. not (c == winner)) (candidates n)
 abbrev pub is_in : List ℕ → ℕ → Bool
 is_in cs c = list_any (λ d. d == c) cs
 
--- no candidate twice
+-- no candidate appears twice
 abbrev pub is_distinct : List ℕ → Bool
 is_distinct [] = true
 is_distinct (c ∷ rest) = not (is_in rest c) && is_distinct rest
@@ -23,6 +23,6 @@ set_of cs = sum_by (λ c. 2 ^ c) cs
 abbrev pub has : ℕ → ℕ → Bool
 has set c = (set / 2 ^ c) % 2 == 1
 
--- the members of a set, in rising order
+-- the members of a set, in increasing order
 abbrev pub members : ℕ → List ℕ
 members set = filter (has set) (candidates ROOM)

@@ -47,7 +47,7 @@ TieAndNone =
     (n : ℕ) (records : List (List ℕ)) (order : List ℕ) → IsTrue (is_order n order) →
     IsTrue (is_tabulated records order) → HasTie n records → HasNoTie records order → ⊥
 
--- without a tie there is one possible order alone, and with one there are others
+-- without a tie only one order is possible, and with a tie others are possible too
 abbrev pub NoTieIsOnePossible : Type 0
 NoTieIsOnePossible =
     (n : ℕ) (records : List (List ℕ)) (order : List ℕ) → IsTrue (is_order n order) →
@@ -58,7 +58,7 @@ NoTieIsOnePossible =
 
 -- ==== decided contests
 
--- if one candidate is elected by all possible orders, it is the winner of the tabulated one
+-- if all possible orders elect one candidate, that candidate is the winner of the tabulated order
 abbrev pub DecidedByTabulated : Type 0
 DecidedByTabulated =
     (n winner : ℕ) (records : List (List ℕ)) (order : List ℕ) → IsTrue (is_order n order) →
@@ -72,7 +72,7 @@ NoTieIsDecided =
     IsTrue (is_tabulated records order) → Elects order winner → HasNoTie records order →
     AllElect n records winner
 
--- two candidates that tie for the win: the last two of a possible order
+-- two candidates who tie for the win are the last two of a possible order
 abbrev pub TieForTheWin : Type 0
 TieForTheWin =
     (n a b : ℕ) (records : List (List ℕ)) (before : List ℕ) →

@@ -5,7 +5,7 @@ use Rattle.irv_base.specs.Candidates.{candidates, is_in}
 use Rattle.irv_base.specs.declared.order.BadOrder.{BadOrder}
 use Rattle.irv_base.specs.declared.order.BadOrder.TheVariants.{Length, Range, Repeated}
 
--- each of n candidates once
+-- each of n candidates appears once
 abbrev pub is_order : ℕ → List ℕ → Bool
 is_order n order = (length order == n) && list_all (λ c. is_in order c) (candidates n)
 
@@ -15,7 +15,7 @@ EndsIn order suffix = (before : List ℕ) × (order ≡ before ++ suffix)
 abbrev pub Elects : List ℕ → ℕ → Type 0
 Elects order c = EndsIn order (c ∷ [])
 
--- ---- why a list is no order of n candidates
+-- ---- why a list is not an order of n candidates
 
 -- the number at a place is a candidate that didn't come before
 abbrev pub is_in_range : ℕ → List ℕ → ℕ → Bool
@@ -24,7 +24,7 @@ is_in_range n list i = nat_lt (slice_index list i) n
 abbrev pub is_repeated : List ℕ → ℕ → Bool
 is_repeated list i = is_in (take i list) (slice_index list i)
 
--- the places before i have candidates, none of them twice, and i is a place
+-- i is a place, and the places before it hold candidates, none of them twice
 pub record IsFirstFault (n : ℕ) (list : List ℕ) (i : ℕ) : Type 0 where
   pub long : length list ≡ n
   pub within : i < n

@@ -1,4 +1,4 @@
--- Lists that are kept in an array with room for the longest, padded with 0: candidates, and the bytes of a name.
+-- Lists stored in an array that has room for the longest one, padded with 0: candidates, and the bytes of a name.
 use Rattle.std.specs.Prelude.{◌≡◌, ◌<◌, ◌≤◌, ◌-◌, ◌++◌, ℕ, List, take, drop, length, replicate, All, IsTrue}
 use Rattle.irv_base.specs.Candidates.{is_distinct, set_of}
 use Rattle.irv_base.specs.Orders.{is_order}
@@ -13,7 +13,7 @@ pub record IsRanking (len : ℕ) (places : List ℕ) : Type 0 where
   pub below : All (λ c. c < ROOM) (take len places)
   pub distinct : IsTrue (is_distinct (take len places))
 
--- for many: each has candidates below ROOM, none of them twice
+-- for many rankings: each has only candidates below ROOM, none of them twice
 pub record AreRankings (rankings : List (List ℕ)) : Type 0 where
   pub below : All (λ ranking. All (λ c. c < ROOM) ranking) rankings
   pub distinct : All (λ ranking. IsTrue (is_distinct ranking)) rankings
@@ -25,7 +25,7 @@ pub record IsOrder (len : ℕ) (places : List ℕ) : Type 0 where
   pub padded : places ≡ take len places ++ replicate (ROOM - len) 0
   pub permutation : IsTrue (is_order len (take len places))
 
--- a suffix is at the end of the array, together with its set
+-- a suffix is stored at the end of the array, together with its set
 pub record IsSuffix (start : ℕ) (places : List ℕ) (set : ℕ) : Type 0 where
   pub few : length (drop start places) ≤ ROOM
   pub long : ROOM - length (drop start places) ≡ start

@@ -7,6 +7,6 @@ use Rattle.irv_base.specs.Candidates.{is_distinct}
 abbrev pub is_suffix : ℕ → List ℕ → Bool
 is_suffix n suffix = is_distinct suffix && list_all (λ c. nat_lt c n) suffix
 
--- the order that it is, if it has all of n candidates
+-- the suffix as an order, if it has all n candidates
 abbrev pub whole : ℕ → List ℕ → Option (List ℕ)
 whole n suffix = if length suffix == n then Some suffix else None

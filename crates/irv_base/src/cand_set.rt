@@ -8,7 +8,7 @@ use std::marker::Model;
 
 /// A set of candidates below `ROOM`.
 ///
-/// To a contract a set is its number, the sum of `2 ^ c` over its members.
+/// In a contract, a set is its number: the sum of `2 ^ c` over its members.
 #[derive(Clone, Copy, Debug, PartialEq, Eq, PartialOrd, Ord, Hash)]
 pub struct CandSet(u32);
 
@@ -22,7 +22,7 @@ impl Model for CandSet {
     ghost inverse = { λ n. record { 0 = n } };
 }
 
-// The set of one candidate.
+// The set with one candidate.
 fn bit(c: Candidate) -> u32
     ensures { result ≡ 2 ^ c }
 {
@@ -44,7 +44,7 @@ impl CandSet {
         (self.0 >> c.0) & 1 == 1
     }
 
-    /// The set with `c` as a member.
+    /// Returns the set with `c` as a member.
     pub fn with(self, c: Candidate) -> CandSet
         ensures members { (d : ℕ) → has result d ≡ (has self d || (d == c)) }
         ensures number { has self c ≡ false → result ≡ self + 2 ^ c }
@@ -52,7 +52,7 @@ impl CandSet {
         CandSet(self.0 | bit(c))
     }
 
-    /// The set without `c`.
+    /// Returns the set without `c`.
     pub fn without(self, c: Candidate) -> CandSet
         ensures { (d : ℕ) → has result d ≡ (has self d && not (d == c)) }
     {
@@ -63,14 +63,14 @@ impl CandSet {
         }
     }
 
-    /// Its number.
+    /// The number of the set.
     pub fn number(self) -> u32
         ensures { result ≡ self }
     {
         self.0
     }
 
-    /// How many members it has.
+    /// The number of members.
     pub fn len(self) -> u32
         ensures { result ≡ length (members self) }
     {
@@ -83,14 +83,14 @@ impl CandSet {
         count
     }
 
-    /// Whether it has no member.
+    /// Whether the set has no members.
     pub fn is_empty(self) -> bool
         ensures { result ≡ (self == 0) }
     {
         self.0 == 0
     }
 
-    /// The member number `i`, from 0, in rising order.
+    /// The `i`th member, from 0, in increasing order.
     pub fn nth(self, i: u32) -> Candidate
         requires { i < length (members self) }
         ensures { slice_get (members self) i ≡ Some result }

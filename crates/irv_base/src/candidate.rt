@@ -4,9 +4,9 @@ ghost use Rattle.irv_base.specs.declared.limits.TheConstants.{ROOM};
 
 use std::marker::Model;
 
-/// A candidate, as its place in the contest's list, from 0. It is below `ROOM`.
+/// A candidate, represented by its place in the contest's list, from 0. It is below `ROOM`.
 ///
-/// To a contract a candidate is its number.
+/// In a contract, a candidate is its number.
 #[derive(Clone, Copy, Debug, PartialEq, Eq, PartialOrd, Ord, Hash)]
 pub struct Candidate(pub u8);
 
@@ -24,7 +24,7 @@ impl Model for Candidate {
 }
 
 impl Candidate {
-    /// Its place in tables that have an entry a candidate.
+    /// The candidate's place in tables that have one entry per candidate.
     pub fn index(self) -> usize
         ensures same { result ≡ self }
         ensures below { result < ROOM }

@@ -1,4 +1,4 @@
-//! The limits as equations, and the laws of tabulation, each of which holds of every value that it names. They have no code.
+//! The limits as equations, and the laws of tabulation, each of which holds for every value that it names. They have no code.
 ghost use Rattle.std.specs.Prelude.{◌≡◌, ◌≤◌};
 ghost use Rattle.irv_base.specs.Laws.{TabulatedExists, TabulatedIsOne, TabulatedIsPossible, FirstTieIsOne, TieOrNone, TieAndNone, NoTieIsOnePossible};
 ghost use Rattle.irv_base.specs.Laws.{DecidedByTabulated, NoTieIsDecided, TieForTheWin};
@@ -9,12 +9,12 @@ pub fn tabulated_exists()
     ensures { TabulatedExists }
 {}
 
-/// There is one alone.
+/// There is only one tabulated order.
 pub fn tabulated_is_one()
     ensures { TabulatedIsOne }
 {}
 
-/// The tabulated order is a possible one.
+/// The tabulated order is a possible order.
 pub fn tabulated_is_possible()
     ensures { TabulatedIsPossible }
 {}
@@ -29,17 +29,17 @@ pub fn tie_or_none()
     ensures { TieOrNone }
 {}
 
-/// There isn't both a first tie and none.
+/// There is never both a first tie and no tie.
 pub fn tie_and_none()
     ensures { TieAndNone }
 {}
 
-/// Only one order is possible, exactly if no round has a tie.
+/// Only one order is possible exactly if no round has a tie.
 pub fn no_tie_is_one_possible()
     ensures { NoTieIsOnePossible }
 {}
 
-/// A contest is decided exactly if all possible orders elect the winner of the tabulated one.
+/// A contest is decided exactly if all possible orders elect the winner of the tabulated order.
 pub fn decided_by_tabulated()
     ensures { DecidedByTabulated }
 {}
@@ -49,12 +49,12 @@ pub fn no_tie_is_decided()
     ensures { NoTieIsDecided }
 {}
 
-/// A contest in which two candidates tie for the win isn't.
+/// A contest in which two candidates tie for the win isn't decided.
 pub fn tie_for_the_win()
     ensures { TieForTheWin }
 {}
 
-/// The numbers of the limits.
+/// The values of the limits.
 pub fn limits()
     ensures room { limit.ROOM ≡ 32 }
     ensures fewest_candidates { limit.FEWEST_CANDIDATES ≡ 2 }
@@ -70,7 +70,7 @@ pub fn limits()
     ensures most_number_digits { limit.MOST_NUMBER_DIGITS ≡ 10 }
 {}
 
-/// All candidates of an audited contest have room.
+/// There is room for all candidates of an audited contest.
 pub fn candidates_have_room()
     ensures { limit.MOST_CANDIDATES ≤ limit.ROOM }
 {}

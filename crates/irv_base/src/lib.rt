@@ -1,4 +1,4 @@
-//! What the whole suite speaks of: candidates and their sets, rankings, elimination orders, names, and the limits.
+//! The vocabulary of the whole suite: candidates and their sets, rankings, elimination orders, names, and the limits.
 #![tactic(auto)]
 
 mod cand_set;

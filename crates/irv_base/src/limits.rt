@@ -1,21 +1,22 @@
-// The limits of the suite, each stated here once. The law `limits` has their numbers as equations.
+// The limits of the suite, each defined once, here. The law `limits` states their values as equations.
 
-/// Candidates for whom sets, rankings and orders have room: numbers below this.
+/// The number of candidates that sets, rankings and orders have room for. Each candidate's number is below this.
 pub const ROOM: u8 = 32;
 
-/// The fewest candidates of an audited contest.
+/// The minimum number of candidates in an audited contest.
 pub const FEWEST_CANDIDATES: u32 = 2;
 
-/// The most candidates of an audited contest. It may be raised up to `ROOM`, here and in the law `limits` alone.
+/// The maximum number of candidates in an audited contest. It may be raised up to `ROOM`, by changing only this and the law
+/// `limits`.
 pub const MOST_CANDIDATES: u32 = 32;
 
-/// The most ballot records of a file.
+/// The maximum number of ballot records in a file.
 pub const MOST_RECORDS: u32 = 1_000_000;
 
-/// The most cards of a manifest.
+/// The maximum number of cards in a manifest.
 pub const MOST_CARDS: u32 = 10_000_000;
 
-/// The most draws of an audit.
+/// The maximum number of draws in an audit.
 pub const MOST_DRAWS: u32 = 100_000;
 
 /// The greatest gamma, in thousandths.
@@ -24,14 +25,14 @@ pub const GREATEST_GAMMA: u32 = 500;
 /// The greatest risk limit, in millionths.
 pub const GREATEST_LIMIT: u32 = 999_999;
 
-/// The most bytes of an input file.
+/// The maximum number of bytes in an input file.
 pub const MOST_FILE_BYTES: u64 = 67_108_864;
 
-/// The most bytes of a name.
+/// The maximum number of bytes in a name.
 pub const MOST_NAME_BYTES: usize = 64;
 
-/// The most workers of a search or a trial, who count its ballots too, and of an audit of all contests.
+/// The maximum number of workers of a search or a trial, who also count its ballots, and of an audit of all contests.
 pub const MOST_WORKERS: u32 = 8;
 
-/// The most digits of a number in a file or among the words of a call.
+/// The maximum number of digits of a number in a file or among the words of a call.
 pub const MOST_NUMBER_DIGITS: usize = 10;

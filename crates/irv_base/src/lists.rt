@@ -1,4 +1,4 @@
-// Lists, kept one after the other.
+// Lists stored back to back.
 ghost use Rattle.std.specs.Prelude.{◌≡◌, ◌<◌, ◌≤◌, ◌+◌, ◌-◌, ◌^◌, ◌++◌, ◌∷◌, [], List, Some, IfOk, OnOk, OnErr, All, length, map, take, drop, slice_get, slice_index_or, vec_capacity, vec_len};
 ghost use Rattle.irv_base.specs.Lists.{AreBegins, lists_between};
 
@@ -6,9 +6,9 @@ use crate::Memory;
 use std::alloc::Global;
 use std::marker::Model;
 
-/// A list of lists. It takes the room of their elements, and four bytes for each list.
+/// A list of lists. It uses the space of their elements, plus four bytes for each list.
 ///
-/// To a contract it is the list of them.
+/// In a contract, it is the list of those lists.
 #[derive(Drop)]
 pub struct Lists<T> {
     elements: Vec<T>,
@@ -27,7 +27,7 @@ impl<T> Model for Lists<T> {
     ghost invariant = { λ l. ArePlaces l.begins.items (length l.elements.items) };
 }
 
-// The end of the list with number i, if the last list ends at place n.
+// The place where list `i` ends, if the last list ends at place n.
 fn end_of(begins: &[u32], n: usize, i: usize) -> usize
     requires { i < length begins.now }
     ensures { result ≡ slice_index_or begins.now (i + 1) n }
@@ -38,7 +38,7 @@ fn end_of(begins: &[u32], n: usize, i: usize) -> usize
     }
 }
 
-// Where the list with number i begins and ends among the elements.
+// The places where list `i` begins and ends among the elements.
 fn bounds<T>(begins: &[u32], elements: &[T], i: usize) -> (usize, usize)
     requires begins { AreBegins begins.now (length elements.now) }
     requires within { i < length begins.now }
@@ -50,7 +50,7 @@ fn bounds<T>(begins: &[u32], elements: &[T], i: usize) -> (usize, usize)
     (begins[i] as usize, end_of(begins, elements.len(), i))
 }
 
-// Where a list begins that is put after this number of elements.
+// The place where a list begins that is added after this number of elements.
 fn begin_behind(elements: usize) -> Result<u32, Memory>
     ensures { IfOk result (λ begin. begin ≡ elements) }
 {
@@ -60,7 +60,7 @@ fn begin_behind(elements: usize) -> Result<u32, Memory>
     Ok(elements as u32)
 }
 
-// Puts begins last, each moved up by the number of elements before them all.
+// Appends begins, each moved up by the number of elements before them all.
 fn push_moved(begins: &mut Vec<u32>, others: &[u32], elements: u32)
     requires room { vec_len begins.old + length others.now ≤ vec_capacity begins.old }
     requires fit { All (λ begin. elements + begin < 2 ^ 32) others.now }
@@ -73,7 +73,7 @@ fn push_moved(begins: &mut Vec<u32>, others: &[u32], elements: u32)
 }
 
 impl<T: Copy> Lists<T> {
-    /// No lists, with room for this many, and for this many elements in all.
+    /// Creates an empty list of lists, with room for this many lists, and for this many elements in all.
     pub fn nothing(alloc: Global, lists: usize, elements: usize) -> Result<Lists<T>, Memory>
         ensures { IfOk result (λ none. none ≡ []) }
     {
@@ -83,7 +83,7 @@ impl<T: Copy> Lists<T> {
         })
     }
 
-    /// How many there are.
+    /// The number of lists.
     pub fn len(&self) -> usize
         ensures { result ≡ length self.now }
     {
@@ -99,7 +99,7 @@ impl<T: Copy> Lists<T> {
         &self.elements[begin..end]
     }
 
-    /// Puts a list last. If more than `u32::MAX` elements come before it, the answer is `Memory`.
+    /// Appends a list. If more than `u32::MAX` elements come before it, the answer is `Memory`.
     pub fn push(&mut self, list: &[T]) -> Result<(), Memory>
         ensures pushed { OnOk result (self.new ≡ self.old ++ list.now ∷ []) }
         ensures same { OnErr result (self.new ≡ self.old) }
@@ -111,7 +111,7 @@ impl<T: Copy> Lists<T> {
         Ok(())
     }
 
-    /// Puts other lists last, in their order. If there would be more than `u32::MAX` elements, the answer is `Memory`.
+    /// Appends other lists, in order. If there would be more than `u32::MAX` elements, the answer is `Memory`.
     pub fn append(&mut self, others: &Lists<T>) -> Result<(), Memory>
         ensures appended { OnOk result (self.new ≡ self.old ++ others.now) }
         ensures same { OnErr result (self.new ≡ self.old) }
@@ -126,7 +126,7 @@ impl<T: Copy> Lists<T> {
         Ok(())
     }
 
-    /// Puts an empty list last. If more than `u32::MAX` elements come before it, the answer is `Memory`.
+    /// Appends an empty list. If more than `u32::MAX` elements come before it, the answer is `Memory`.
     pub fn begin(&mut self) -> Result<(), Memory>
         ensures begun { OnOk result (self.new ≡ self.old ++ [] ∷ []) }
         ensures same { OnErr result (self.new ≡ self.old) }
@@ -136,7 +136,7 @@ impl<T: Copy> Lists<T> {
         Ok(())
     }
 
-    /// Puts an element at the end of the last list.
+    /// Appends an element to the last list.
     pub fn lengthen(&mut self, x: T) -> Result<(), Memory>
         requires { 0 < length self.now }
         ensures longer { OnOk result ((earlier : List (List T)) → (last : List T)
@@ -148,7 +148,7 @@ impl<T: Copy> Lists<T> {
         Ok(())
     }
 
-    /// The same lists once more.
+    /// Returns a copy of the lists.
     pub fn copied(&self, alloc: Global) -> Result<Lists<T>, Memory>
         ensures { IfOk result (λ lists. lists ≡ self.now) }
     {

@@ -1,10 +1,10 @@
-// Want of memory: the one answer that is free at any time.
+// Lack of memory: the one answer that is allowed at any time.
 
 use std::alloc::{AllocError, AllocFailed};
 use std::error::Error;
 use std::fmt;
 
-/// Memory could not be had.
+/// Memory could not be allocated.
 #[derive(Clone, Copy, Debug, PartialEq, Eq)]
 pub struct Memory;
 

@@ -12,10 +12,10 @@ use crate::{Candidate, MOST_NAME_BYTES};
 use std::hash::{Hash, Hasher};
 use std::marker::Model;
 
-/// The id of a contest, a candidate or a ballot: 1 to `MOST_NAME_BYTES` printable ASCII characters, no comma and no
-/// double quote among them, that neither begin nor end with a space.
+/// The id of a contest, a candidate or a ballot. It has 1 to `MOST_NAME_BYTES` printable ASCII characters, contains no comma and no
+/// double quote, and neither begins nor ends with a space.
 ///
-/// To a contract a name is its bytes.
+/// In a contract, a name is its bytes.
 #[derive(Clone, Copy)]
 pub struct Name {
     len: u8,
@@ -78,7 +78,7 @@ fn is_name(bytes: &[u8]) -> bool
 }
 
 impl Name {
-    /// The name with these bytes, if they are one.
+    /// Returns the name with these bytes, if they form a name.
     pub fn read(bytes: &[u8]) -> Option<Name>
         ensures name { IfSome result (λ name. name ≡ bytes.now) }
         ensures valid { IfSome result (λ _. IsTrue (is_name bytes.now)) }
@@ -95,7 +95,7 @@ impl Name {
         })
     }
 
-    /// Its bytes: ASCII, 1 to `MOST_NAME_BYTES` of them.
+    /// The bytes of the name: ASCII, 1 to `MOST_NAME_BYTES` of them.
     pub fn bytes(&self) -> &[u8]
         ensures same { result.now ≡ self.now }
         ensures valid { IsTrue (is_name self.now) }
@@ -103,7 +103,7 @@ impl Name {
         &self.text[..usize::from(self.len)]
     }
 
-    /// Its characters, as a text.
+    /// The characters of the name, as text.
     pub fn text(&self) -> &str
         ensures same { result.now ≡ self.now }
         ensures valid { IsTrue (is_name self.now) }
@@ -143,7 +143,7 @@ fn place_of(names: &[Name], id: &[u8]) -> Option<usize>
     names.iter().position(|name| name.bytes() == id)
 }
 
-/// The candidate with that id, if these are the ids of the candidates.
+/// Returns the candidate with this id, if these are the ids of the candidates.
 pub fn candidate_named(names: &[Name], id: &[u8]) -> Option<Candidate>
     requires { length names.now ≤ ROOM }
     ensures named { result ≡ candidate_named names.now id.now }

@@ -8,14 +8,14 @@ use std::error::Error;
 use std::fmt;
 use std::marker::Model;
 
-/// Why a list of numbers is no order.
+/// Why a list of numbers is not an order.
 #[derive(Clone, Copy, Debug, PartialEq, Eq)]
 pub enum BadOrder {
-    /// It has this many numbers.
+    /// The list has this many numbers.
     Length(u64),
-    /// The number at this place, from 0, is no candidate.
+    /// The number at this place, from 0, is not a candidate.
     Range(u64),
-    /// The number at this place, from 0, is also at an earlier one.
+    /// The number at this place, from 0, also appears at an earlier place.
     Repeated(u64),
 }
 
@@ -31,9 +31,9 @@ impl fmt::Display for BadOrder {
 
 impl Error for BadOrder {}
 
-/// An elimination order: each candidate of a contest once, first eliminated first, so the winner is last.
+/// An elimination order. It has each candidate of a contest once, first eliminated first, so the winner is last.
 ///
-/// To a contract an order is the list of its candidates.
+/// In a contract, an order is the list of its candidates.
 #[derive(Clone, Copy)]
 pub struct Order {
     len: u8,
@@ -62,7 +62,7 @@ impl Model for Order {
 }
 
 impl Order {
-    /// The order of `n` candidates with these numbers, or the first reason why it is none.
+    /// Returns the order of `n` candidates with these numbers, or the first reason why they don't form an order.
     pub fn read(n: u32, list: &[u8]) -> Result<Order, BadOrder>
         requires some { 1 ≤ n }
         requires room { n ≤ ROOM }
@@ -89,7 +89,7 @@ impl Order {
         })
     }
 
-    // The order that a list of all candidates is.
+    // Turns a list of all candidates into an order.
     pub(crate) fn of_all(list: &[Candidate]) -> Order
         requires some { 0 < length list.now }
         requires room { length list.now ≤ ROOM }
@@ -104,7 +104,7 @@ impl Order {
         }
     }
 
-    /// The candidate that is eliminated in round `i`, from 0, or the winner at the last place.
+    /// The candidate eliminated in round `i`, from 0, or the winner at the last place.
     pub fn at(&self, i: u32) -> Candidate
         requires { i < length self.now }
         ensures { slice_get self.now i ≡ Some result }
@@ -112,7 +112,7 @@ impl Order {
         self.places[i as usize]
     }
 
-    /// How many candidates it has.
+    /// The number of candidates.
     pub fn len(&self) -> u32
         ensures same { result ≡ length self.now }
         ensures some { 1 ≤ result }
@@ -121,7 +121,7 @@ impl Order {
         u32::from(self.len)
     }
 
-    /// Its candidates, first eliminated first.
+    /// The candidates, first eliminated first.
     pub fn candidates(&self) -> &[Candidate]
         ensures same { result.now ≡ self.now }
         ensures order { IsTrue (is_order (length self.now) self.now) }

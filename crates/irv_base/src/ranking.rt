@@ -10,9 +10,9 @@ ghost use Rattle.irv_base.specs.declared.limits.TheConstants.{ROOM};
 use crate::{CandSet, Candidate, ROOM};
 use std::marker::Model;
 
-/// The ranking of a ballot: distinct candidates, the most preferred first, possibly none.
+/// The ranking of a ballot: distinct candidates, the most preferred first. It may be empty.
 ///
-/// To a contract a ranking is the list of its candidates.
+/// In a contract, a ranking is the list of its candidates.
 #[derive(Clone, Copy)]
 pub struct Ranking {
     len: u8,
@@ -57,7 +57,7 @@ impl Ranking {
         }
     }
 
-    /// The ranking of these candidates, the most preferred first, each of whom counts at its first place.
+    /// Returns the ranking of these candidates, the most preferred first. Each of them counts at its first place.
     pub fn of(candidates: &[Candidate]) -> Ranking
         ensures { result ≡ firsts candidates.now }
     {
@@ -68,7 +68,7 @@ impl Ranking {
         ranking
     }
 
-    /// Adds a candidate at the end. One that is there already counts at its first place.
+    /// Adds a candidate at the end. If the candidate is already there, it counts at its first place.
     pub fn push(&mut self, c: Candidate)
         ensures added { is_in self.old c ≡ false → self.new ≡ self.old ++ c ∷ [] }
         ensures kept { is_in self.old c ≡ true → self.new ≡ self.old }
@@ -78,7 +78,7 @@ impl Ranking {
         }
     }
 
-    /// Adds a candidate that isn't there at the end, without a look at those that are.
+    /// Adds a candidate that isn't there yet at the end, without looking at those that are.
     pub fn push_new(&mut self, c: Candidate)
         requires { is_in self.old c ≡ false }
         ensures { self.new ≡ self.old ++ c ∷ [] }
@@ -88,14 +88,14 @@ impl Ranking {
         self.len += 1;
     }
 
-    /// Whether it ranks `c`, at whatever place.
+    /// Whether the ranking includes `c`, at any place.
     pub fn contains(&self, c: Candidate) -> bool
         ensures { result ≡ is_in self.now c }
     {
         self.candidates().iter().any(|d| *d == c)
     }
 
-    /// The first candidate that is in the set.
+    /// The first candidate in the ranking that is in the set.
     pub fn first_in(&self, s: CandSet) -> Option<Candidate>
         ensures { result ≡ top self.now s }
     {
@@ -112,7 +112,7 @@ impl Ranking {
         }
     }
 
-    /// Its candidates, the most preferred first.
+    /// The candidates, the most preferred first.
     pub fn candidates(&self) -> &[Candidate]
         ensures same { result.now ≡ self.now }
         ensures few { length self.now ≤ ROOM }

@@ -7,9 +7,9 @@ use crate::{Candidate, Lists, Memory, ROOM, Ranking};
 use std::alloc::Global;
 use std::marker::Model;
 
-/// The rankings of ballots, in their order. They take a byte for each place, and four for each ranking.
+/// The rankings of ballots, in order. They use one byte for each place, and four for each ranking.
 ///
-/// To a contract it is the list of the rankings.
+/// In a contract, this is the list of the rankings.
 #[derive(Drop)]
 pub struct Rankings {
     lists: Lists<Candidate>,
@@ -27,7 +27,7 @@ impl Model for Rankings {
 }
 
 impl Rankings {
-    /// No rankings, with room for this many, and for this many places in all.
+    /// Creates an empty list of rankings, with room for this many rankings, and for this many places in all.
     pub fn nothing(alloc: Global, rankings: usize, places: usize) -> Result<Rankings, Memory>
         ensures { IfOk result (λ none. none ≡ []) }
     {
@@ -36,7 +36,7 @@ impl Rankings {
         })
     }
 
-    /// These rankings.
+    /// Creates the list of these rankings.
     pub fn of(alloc: Global, rankings: &[Ranking]) -> Result<Rankings, Memory>
         ensures { IfOk result (λ those. those ≡ rankings.now) }
     {
@@ -47,7 +47,7 @@ impl Rankings {
         Ok(those)
     }
 
-    /// How many there are.
+    /// The number of rankings.
     pub fn len(&self) -> usize
         ensures { result ≡ length self.now }
     {
@@ -72,7 +72,7 @@ impl Rankings {
         Ranking::of(self.at(i))
     }
 
-    /// Puts a ranking last. If more than `u32::MAX` places come before it, the answer is `Memory`.
+    /// Appends a ranking. If more than `u32::MAX` places come before it, the answer is `Memory`.
     pub fn push(&mut self, ranking: &Ranking) -> Result<(), Memory>
         ensures pushed { OnOk result (self.new ≡ self.old ++ ranking.now ∷ []) }
         ensures same { OnErr result (self.new ≡ self.old) }
@@ -81,7 +81,7 @@ impl Rankings {
         Ok(())
     }
 
-    /// Puts other rankings last, in their order. If there would be more than `u32::MAX` places, the answer is `Memory`.
+    /// Appends other rankings, in order. If there would be more than `u32::MAX` places, the answer is `Memory`.
     pub fn append(&mut self, others: &Rankings) -> Result<(), Memory>
         ensures appended { OnOk result (self.new ≡ self.old ++ others.now) }
         ensures same { OnErr result (self.new ≡ self.old) }
@@ -90,7 +90,7 @@ impl Rankings {
         Ok(())
     }
 
-    /// Puts a ranking without candidates last.
+    /// Appends a ranking without candidates.
     pub fn begin(&mut self) -> Result<(), Memory>
         ensures begun { OnOk result (self.new ≡ self.old ++ [] ∷ []) }
         ensures same { OnErr result (self.new ≡ self.old) }
@@ -99,7 +99,7 @@ impl Rankings {
         Ok(())
     }
 
-    /// Puts a candidate who isn't in the last ranking at its end.
+    /// Appends a candidate who isn't in the last ranking to that ranking.
     pub fn lengthen(&mut self, c: Candidate) -> Result<(), Memory>
         requires { (earlier : List (List ℕ)) × (last : List ℕ)
             × (self.now ≡ earlier ++ last ∷ []) × (is_in last c ≡ false) }
@@ -112,7 +112,7 @@ impl Rankings {
         Ok(())
     }
 
-    /// The same rankings once more.
+    /// Returns a copy of the rankings.
     pub fn copied(&self, alloc: Global) -> Result<Rankings, Memory>
         ensures { IfOk result (λ rankings. rankings ≡ self.now) }
     {

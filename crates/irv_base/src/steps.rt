@@ -4,9 +4,9 @@ ghost use Rattle.std.specs.Prelude.{◌≡◌, ◌+◌, ◌<◌};
 use std::marker::Model;
 use std::sync::ledger::{Blank, Book, Ledger, Share};
 
-/// How many steps were taken. Only `tick` changes it, and it takes no bytes when the program runs.
+/// The number of steps taken. Only `tick` changes it, and it uses no bytes at run time.
 ///
-/// To a contract it is the number of steps.
+/// In a contract, it is the number of steps.
 #[derive(Drop)]
 pub struct Steps<L: Ledger> {
     book: Book<L>,
@@ -24,7 +24,7 @@ impl<L: Ledger> Model for Steps<L> {
 }
 
 impl<L: Ledger> Steps<L> {
-    /// No step yet. A `Blank` is handed out by std, once for each ledger.
+    /// Starts at zero steps. std hands out one `Blank` for each ledger.
     pub fn new(blank: Blank) -> Steps<L>
         requires { (blank.name ≡ L.name) × (blank.parts ≡ L.parts) × (0 < L.parts) }
         ensures { result ≡ 0 }
@@ -33,7 +33,7 @@ impl<L: Ledger> Steps<L> {
         Steps { book, share }
     }
 
-    /// One step more.
+    /// Counts one more step.
     pub fn tick(&mut self)
         ensures { self.new ≡ self.old + 1 }
     {

@@ -8,10 +8,10 @@ ghost use Rattle.irv_base.specs.declared.limits.TheConstants.{ROOM};
 use crate::{CandSet, Candidate, Order, ROOM};
 use std::marker::Model;
 
-/// The last candidates of an elimination order, first eliminated first, so the winner is last. It grows at its front, and has each
-/// candidate at most once.
+/// The last candidates of an elimination order, first eliminated first, so the winner is last. A suffix grows at its front, and has
+/// each candidate at most once.
 ///
-/// To a contract a suffix is the list of its candidates.
+/// In a contract, a suffix is the list of its candidates.
 #[derive(Clone, Copy)]
 pub struct Suffix {
     start: u8,
@@ -57,14 +57,14 @@ impl Suffix {
         }
     }
 
-    /// The suffix of one candidate.
+    /// The suffix with one candidate.
     pub fn of(c: Candidate) -> Suffix
         ensures { result ≡ c ∷ [] }
     {
         Suffix::empty().with(c)
     }
 
-    /// The suffix with one more candidate in front, who is eliminated before all of it.
+    /// Returns the suffix with one more candidate in front, who is eliminated before all the others.
     pub fn with(&self, c: Candidate) -> Suffix
         requires other { IsFalse (is_in self.now c) }
         ensures { result ≡ c ∷ self.now }
@@ -80,7 +80,7 @@ impl Suffix {
         }
     }
 
-    /// Its candidates, first eliminated first.
+    /// The candidates, first eliminated first.
     pub fn list(&self) -> &[Candidate]
         ensures same { result.now ≡ self.now }
         ensures suffix { IsTrue (is_suffix ROOM self.now) }
@@ -89,7 +89,7 @@ impl Suffix {
         &places[usize::from(self.start)..]
     }
 
-    /// How many candidates it has.
+    /// The number of candidates.
     pub fn len(&self) -> u32
         ensures same { result ≡ length self.now }
         ensures few { result ≤ ROOM }
@@ -97,14 +97,14 @@ impl Suffix {
         u32::from(ROOM - self.start)
     }
 
-    /// The set of its candidates.
+    /// The set of the candidates.
     pub fn set(&self) -> CandSet
         ensures { result ≡ set_of self.now }
     {
         self.set
     }
 
-    /// Its first candidate, the last that was put in front.
+    /// The first candidate, which is the last one added in front.
     pub fn first(&self) -> Candidate
         requires { 0 < length self.now }
         ensures { result ≡ slice_index self.now 0 }
@@ -112,14 +112,14 @@ impl Suffix {
         self.places[usize::from(self.start)]
     }
 
-    /// Whether `c` is one of its candidates.
+    /// Whether `c` is one of the candidates.
     pub fn contains(&self, c: Candidate) -> bool
         ensures { result ≡ is_in self.now c }
     {
         self.set.has(c)
     }
 
-    /// The order that it is, if it has all candidates of a contest.
+    /// Returns the suffix as an order, if it has all candidates of a contest.
     pub fn to_order(&self) -> Order
         requires some { 0 < length self.now }
         requires whole { IsTrue (is_order (length self.now) self.now) }
@@ -128,7 +128,7 @@ impl Suffix {
         Order::of_all(self.list())
     }
 
-    /// The order that it is, if it has all of `n` candidates.
+    /// Returns the suffix as an order, if it has all `n` candidates.
     pub fn whole(&self, n: u32) -> Option<Order>
         requires some { 1 ≤ n }
         requires below { IsTrue (is_suffix n self.now) }

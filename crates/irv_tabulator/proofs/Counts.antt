@@ -1,4 +1,4 @@
--- The rounds so far, and how many records each counts.
+-- The rounds so far, and the number of records that each counts.
 use Rattle.std.proofs.Common.{◌==◌, ◌≡◌, inl, inr, ℕ, zero, suc, ◌+◌, ◌-◌, ◌<◌, ◌≤◌, Bool, true, false, cond, not, List, [], ◌∷◌, ◌++◌, Option, Some, None, length, map, sum, sum_by, is_some, refl, sym, ap, ap₂, subst, arith, eq-eqb, ne_eqb, append_assoc, ◌∙◌}
 use Rattle.std.specs.List.{range_with_len}
 use Rattle.std.proofs.lemmas.Bool.{cases_eq}
@@ -89,7 +89,7 @@ Noted n records done set counts = (c : ℕ) (rest : List ℕ) → IsRest set (c 
 pub first-noted : (n : ℕ) (records : List (List ℕ)) (set : ℕ) → Noted n records [] set []
 first-noted n records set c rest r = refl
 
--- a round that was counted: the row of its set, what that leaves of all records, and those who share its least tally
+-- a round that was counted: the row of its set, what the row leaves of all records, and those who share the set's smallest tally
 pub record IsCounted (n : ℕ) (records : List (List ℕ)) (set : ℕ) (count : Count) : Type 0 where
   pub all : ℕ
   pub every : all ≡ length records

@@ -1,4 +1,4 @@
--- The least tally of the remaining candidates, and who has it.
+-- The smallest tally of the remaining candidates, and who has it.
 use Rattle.std.proofs.Common.{◌==◌, ◌≡◌, ◌≢◌, ℕ, zero, suc, ◌+◌, ◌-◌, ◌<◌, ◌≤◌, ◌^◌, Bool, true, false, cond, inl, inr, List, [], ◌∷◌, ◌++◌, Some, length, map, take, filter, get_or, slice_get, slice_index, refl, sym, ap, ap₂, subst, arith, eq-eqb, eqb-true, le_antisymm, ◌∙◌}
 use Rattle.std.proofs.lemmas.Bool.{cases_Bool, cases_eq, cases_lt}
 use Rattle.std.proofs.lemmas.List.{take_more}
@@ -43,7 +43,7 @@ some-one a b e = cc
 pub got-has : (set i c : ℕ) → slice_get (members set) i ≡ Some c → has set c ≡ true
 got-has set i c e = (from_filter (has set) (candidates ROOM) (got-member (members set) i c e)).1
 
--- the members stand in rising order
+-- the members are in increasing order
 rising : (p : ℕ → Bool) (a n i j c d : ℕ) → i < j → slice_get (filter p (range_with_len a n)) i ≡ Some c → slice_get (filter p (range_with_len a n)) j ≡ Some d →
     c < d
 rising p a zero zero j c d l e f = cc
@@ -64,7 +64,7 @@ pub members-rise : (set i j c d : ℕ) → i < j → slice_get (members set) i �
 members-rise set i j c d l e f = rising (has set) 0 ROOM i j c d l e f
 
 -- ---- the lowest
--- of the first i members this one goes before each other
+-- this member goes before each of the others among the first i members
 pub record IsLowest (row : List ℕ) (set i c : ℕ) : Type 0 where
   pub place : ℕ
   pub before : place < i
@@ -218,7 +218,7 @@ module _ (n : ℕ) (records : List (List ℕ)) (row : List ℕ) (set c : ℕ) (r
       (members set)
       (λ d m. ap₂ (λ x y. x == y) (value d (r.rest.same d ∙ in-from_member m) ∙ ap (λ s. tally records s d) (sym whole)) is-least)
 
-  -- those who share the least tally, however they are listed
+  -- those who share the smallest tally, however they are listed
   pub tied-of : (tied : ℕ) (rest : List ℕ) → IsRest set rest → tied ≡ set_of (filter (λ d. slice_index row d == slice_index row c) (members set)) →
       tied ≡ set_of (sharing_least records rest)
   tied-of tied rest s who =

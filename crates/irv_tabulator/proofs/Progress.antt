@@ -1,4 +1,4 @@
--- What the rounds so far say of every way to go on.
+-- What the rounds so far say about every way to continue.
 use Rattle.std.proofs.Common.{◌==◌, ◌≡◌, ◌≢◌, ℕ, zero, suc, ◌+◌, ◌-◌, ◌<◌, ◌≤◌, ◌^◌, Bool, true, false, not, cond, ◌&&◌, ◌||◌, nat_lt, nat_le, inl, inr, List, [], ◌∷◌, ◌++◌, Option, Some, length, take, drop, filter, get_or, set, slice_get, slice_index, refl, sym, ap, subst, arith, eq-eqb, ne_eqb, eqb-true, lt-ltb, ltb-true, length-append, append_assoc, ◌∙◌}
 use Rattle.std.proofs.lemmas.Bool.{cases_Bool, cases_eq, both_ways, and_parts, and_from}
 use Rattle.std.proofs.lemmas.List.{take_more_set}
@@ -25,7 +25,7 @@ pub record Shape (n : ℕ) (done : List ℕ) (set : ℕ) : Type 0 where
 abbrev pub Rounds : List (List ℕ) → List ℕ → ℕ → Type 0
 Rounds records done set = (rest : List ℕ) → IsRest set rest → is_tabulated records rest ≡ true → is_tabulated records (done ++ rest) ≡ true
 
--- ---- the members in rising order
+-- ---- the members in increasing order
 pub distinct_filter : (p : ℕ → Bool) (xs : List ℕ) → Distinct xs → Distinct (filter p xs)
 distinct_filter p [] d = none
 distinct_filter p (x ∷ xs) d = kept (p x) (distinct_filter p xs (distinct-tail d)) where
@@ -62,7 +62,7 @@ first-shape n set all = record {
 pub first-rounds : (records : List (List ℕ)) (set : ℕ) → Rounds records [] set
 first-rounds records set rest r h = h
 
--- ---- one more is eliminated
+-- ---- one more candidate is eliminated
 pub record IsWithout (set c less : ℕ) : Type 0 where
   pub was : has set c ≡ true
   pub others : (d : ℕ) → has less d ≡ (has set d && not (d == c))
@@ -103,7 +103,7 @@ rounds-more records done set c less w loser s rest r h =
     ap (is_tabulated records) (append_assoc done (c ∷ []) rest)
     ∙ s (c ∷ rest) (rest-more set c less rest w r) (and_from (loses records c rest) (is_tabulated records rest) (loser rest r) h)
 
--- ---- how many remain
+-- ---- the number of candidates who remain
 pub remaining : (n : ℕ) (done : List ℕ) (set : ℕ) → n ≤ ROOM → Shape n done set → length done + length (members set) ≡ n
 remaining n done set room s =
     let r = members-rest n set room s.below in
@@ -138,7 +138,7 @@ last-one n done set w room s long e =
     let one : length (members set) ≡ 1 = omega (arith, remaining n done set room s, long) in
     subst (IsRest set) (single (members set) w one e) (members-rest n set room s.below)
 
--- an order isn't refused
+-- an order is never refused
 pub not-refused : (n : ℕ) (list : List ℕ) (fault : BadOrder) → is_order n list ≡ true → Refuses n list fault → ⊥
 not-refused n list (Length found) o r = r.1 (order_facts n list o).long
 not-refused n list (Range i) o r =

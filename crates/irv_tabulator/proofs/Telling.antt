@@ -1,4 +1,4 @@
--- What the rounds of a tabulation tell of its ties.
+-- What the rounds of a tabulation say about its ties.
 use Rattle.std.proofs.Common.{◌≡◌, ℕ, zero, suc, ◌+◌, ◌-◌, ◌<◌, ◌≤◌, ◌==◌, Bool, true, false, cond, nat_le, inl, inr, List, [], ◌∷◌, ◌++◌, Option, Some, None, length, map, take, drop, filter, get_or, slice_get, slice_index, refl, sym, ap, subst, arith, le-leb, leb-true, take-append-drop, ◌∙◌}
 use Rattle.std.proofs.lemmas.Bool.{and_parts, cases_Bool}
 use Rattle.std.proofs.lemmas.List.FromFn.{get_or-map-range_with_len}
@@ -78,7 +78,7 @@ map-none [] (suc k) e = refl
 map-none (x ∷ xs) zero e = cc
 map-none (x ∷ xs) (suc k) e = map-none xs k e
 
--- ---- how many are in a set
+-- ---- the number of members of a set
 members-length : (n : ℕ) (xs : List ℕ) → n ≤ ROOM → Distinct xs → ((c : ℕ) → Member c xs → c < n) → length (members (set_of xs)) ≡ length xs
 members-length n xs room d below =
     let r = members-rest n (set_of xs) room (λ c h. below c (member-from_in c xs (sym (has-set_of xs c d) ∙ h))) in
@@ -140,7 +140,7 @@ module _ (n : ℕ) (records : List (List ℕ)) (t : Tabulated) (h : IsTabulation
             absurd (omega (arith, two', same, few))
       ]
 
-  -- the tally of the one who is eliminated is the least
+  -- the tally of the candidate who is eliminated is the smallest
   least-told : (k c : ℕ) (round : Round) → slice_get t.rounds.items k ≡ Some round → slice_get t.order k ≡ Some c →
       get_or round.tallies.items c 0 ≡ least_tally records (rest-at k)
   least-told k c round e at =

@@ -1,4 +1,4 @@
--- What a tabulation answers.
+-- What a tabulation returns.
 use Rattle.std.specs.Prelude.{◌≡◌, ◌≤◌, ℕ, List, true}
 use Rattle.irv_base.specs.Orders.{is_order, Elects}
 use Rattle.irv_tabulator.specs.declared.tabulated.FirstTie.{FirstTie}

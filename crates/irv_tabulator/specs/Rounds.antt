@@ -1,5 +1,5 @@
--- The rounds of a tabulation: while two or more candidates remain, their tallies, the records that rank none of them, and those who
--- share the least tally.
+-- The rounds of a tabulation, while two or more candidates remain: their tallies, the records that rank none of them, and those who
+-- share the smallest tally.
 use Rattle.std.specs.Prelude.{◌≡◌, ◌==◌, ◌++◌, ℕ, not, List, [], ◌∷◌, map, filter, slice_index, count_by, is_some}
 use Rattle.irv_base.specs.Candidates.{members, set_of}
 use Rattle.irv_base.specs.Records.{top}
@@ -11,10 +11,10 @@ pub record Count : Type 0 where
   -- a tally for each candidate of the contest, 0 for those who don't remain
   pub votes : List ℕ
   pub exhausted : ℕ
-  -- the set of those who share the least tally
+  -- the set of those who share the smallest tally
   pub tied : ℕ
 
--- the records that rank none of the set
+-- the number of records that rank nobody in the set
 abbrev pub exhausted_of : List (List ℕ) → ℕ → ℕ
 exhausted_of records set = count_by (λ ranking. not (is_some (top ranking set))) records
 
@@ -26,7 +26,7 @@ count_of n records cs = record {
   tied = set_of (sharing_least records cs);
 }
 
--- the rounds of an order of n candidates: one for each place but the last, in which those from there on remain
+-- the rounds of an order of n candidates: one for each place but the last, in which the candidates from that place on remain
 abbrev pub rounds_of : ℕ → List (List ℕ) → List ℕ → List Count
 rounds_of n records [] = []
 rounds_of n records (winner ∷ []) = []
@@ -41,7 +41,7 @@ count_in round =
 abbrev pub counts_in : List Round → List Count
 counts_in rounds = map count_in rounds
 
--- one round more is noted
+-- one more round is noted
 abbrev pub Notes : List Round → Count → List Round → Type 0
 Notes old count new = counts_in new ≡ counts_in old ++ count ∷ []
 

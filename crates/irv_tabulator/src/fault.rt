@@ -9,7 +9,7 @@ use std::fmt;
 /// Why there is no tabulation.
 #[derive(Clone, Copy, Debug)]
 pub enum TabFault {
-    /// Memory could not be had.
+    /// Memory could not be allocated.
     Memory,
 }
 

@@ -1,4 +1,4 @@
-// Who has the least tally among the remaining candidates.
+// Who has the smallest tally among the remaining candidates.
 ghost use Rattle.std.specs.Prelude.{◌≡◌, ◌≢◌, ℕ, ◌<◌, ◌≤◌, true, length, slice_index};
 ghost use Rattle.irv_base.specs.declared.limits.TheConstants.{ROOM};
 ghost use Rattle.irv_base.specs.Candidates.{has, members, set_of};
@@ -15,7 +15,7 @@ pub fn votes(row: &[u32], c: Candidate) -> u32
     row[c.index()]
 }
 
-/// Of those with the least tally, the one with the least number.
+/// The candidate with the smallest number of those with the smallest tally.
 pub fn lowest(row: &[u32], remaining: CandSet) -> Candidate
     requires some { 0 < length (members remaining) }
     requires within { (c : ℕ) → has remaining c ≡ true → c < length row.now }

@@ -24,7 +24,7 @@ fn all_of(n: u32) -> CandSet
     all
 }
 
-// How many of the records none of these tallies counts.
+// The number of records that none of these tallies counts.
 fn uncounted(row: &[u32], records: u32) -> u32
     ensures { result ≡ records - sum row.now }
 {
@@ -48,7 +48,7 @@ fn note(rounds: &mut Vec<Round>, row: Vec<u32>, exhausted: u32, tied: CandSet) -
     Ok(())
 }
 
-/// The tabulated order of the tallies' contest with its rounds.
+/// Returns the tabulated order of the contest of the tallies, with its rounds.
 pub fn tabulate(alloc: Global, tallies: &mut Tallies<'_>) -> Result<Tabulated, TabFault>
     ensures tabulated { (records : List (List ℕ)) → IsOf tallies.old.bag records
         → IfOk result (IsTabulation tallies.old.bag.n records) }

@@ -9,37 +9,37 @@ use irv_base::{CandSet, Candidate, Order};
 /// A round of the tabulation, in which one candidate is eliminated.
 #[derive(Drop)]
 pub struct Round {
-    /// For each candidate of the contest its tally among those who remain, and 0 for one who doesn't.
+    /// For each candidate of the contest, its tally among those who remain, or 0 if it doesn't remain.
     pub tallies: Vec<u32>,
-    /// How many records rank none of those who remain.
+    /// The number of records that rank none of those who remain.
     pub exhausted: u32,
-    /// Those who share the least tally.
+    /// Those who share the smallest tally.
     pub tied: CandSet,
 }
 
-/// The first round, from 1, in which two or more candidates share the least tally, who they are, and that tally.
+/// The first round, from 1, in which two or more candidates share the smallest tally, with these candidates and that tally.
 #[derive(Clone, Copy, Debug)]
 pub struct FirstTie {
     /// The round, from 1.
     pub round: u32,
-    /// Those who share the least tally.
+    /// Those who share the smallest tally.
     pub tied: CandSet,
     /// That tally.
     pub tally: u32,
 }
 
-/// The tabulated order, the winner, who is last in it, and the rounds, one for each elimination.
+/// The tabulated order, its winner, who is last in it, and its rounds, one for each elimination.
 #[derive(Drop)]
 pub struct Tabulated {
     /// The tabulated order.
     pub order: Order,
     /// The last candidate of the order.
     pub winner: Candidate,
-    /// A round for each elimination, the first one first.
+    /// The rounds, one for each elimination, the first one first.
     pub rounds: Vec<Round>,
 }
 
-// The candidate's tally, or 0 beyond the row.
+// The candidate's tally, or 0 if it is beyond the end of the row.
 fn tally_in(row: &[u32], c: Candidate) -> u32
     ensures { result ≡ get_or row.now c 0 }
 {

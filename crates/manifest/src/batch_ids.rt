@@ -20,7 +20,7 @@ use std::marker::Model;
 /// Each id has a place in a table, and the first id at a place is found there. The author of a file can predict which ids share a place,
 /// and a file may have many of them. So the ids that come to their place later are kept sorted, and no id is slow to find.
 ///
-/// To a contract it is the list of the ids.
+/// In a contract, it is the list of the ids.
 #[derive(Drop)]
 pub struct BatchIds {
     ids: Vec<Name>,

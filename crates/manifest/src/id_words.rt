@@ -15,7 +15,7 @@ const WORDS: usize = 8;
 
 /// The bytes of an id as words, padded with zeros. Two of these are compared in a few steps.
 ///
-/// To a contract it is the list of the words. No two ids have the same words.
+/// In a contract, it is the list of the words. No two ids have the same words.
 #[derive(Clone, Copy)]
 pub struct IdWords([u64; WORDS]);
 

@@ -12,7 +12,7 @@ use std::fmt;
 pub enum LinkFault {
     /// Rule M7: the ballot in record `at` of the ballot file, counted from 1, names no card.
     NoCard { at: u32 },
-    /// Memory ran out.
+    /// Memory could not be allocated.
     Memory,
 }
 

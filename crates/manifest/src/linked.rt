@@ -18,7 +18,7 @@ const NO_BALLOT: u32 = 0;
 
 /// The cards of a manifest, each with what a ballot file has for it.
 ///
-/// To a contract it is the list of what is recorded for each card, in the order of the cards.
+/// In a contract, it is the list of what is recorded for each card, in the order of the cards.
 #[derive(Drop)]
 pub struct Linked {
     numbers: Vec<u32>,

@@ -17,7 +17,7 @@ use std::marker::Model;
 /// A batch has 1 to `MOST_BATCH_CARDS` cards, and there are 1 to `MOST_CARDS` cards in all. The cards are numbered from 1 through the
 /// batches in order.
 ///
-/// To a contract it is the record of the batches' ids and their numbers of cards.
+/// In a contract, it is the record of the batches' ids and their numbers of cards.
 #[derive(Drop)]
 pub struct Manifest {
     ids: BatchIds,

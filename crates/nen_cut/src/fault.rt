@@ -13,7 +13,7 @@ pub enum NensFault {
     Spent,
     /// No true assertions of at least the margin cover.
     Uncovered,
-    /// There isn't enough memory.
+    /// Memory could not be allocated.
     Memory,
 }
 

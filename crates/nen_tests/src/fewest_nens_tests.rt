@@ -1,4 +1,4 @@
-// The fewest NENs of contests that were worked by hand, a budget that is spent, and a margin at which nothing covers.
+// Tests of the fewest NENs of contests that were worked out by hand, of a budget that runs out, and of a margin at which nothing covers.
 ghost use Rattle.std.specs.Prelude.{◌<◌, ◌≤◌, length, All};
 ghost use Rattle.irv_base.specs.declared.limits.TheConstants.{FEWEST_CANDIDATES, ROOM, MOST_RECORDS};
 

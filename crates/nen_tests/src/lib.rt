@@ -1,4 +1,4 @@
-//! Tests of the fewest NENs, by their public call.
+//! Tests of the fewest NENs, through their public call.
 #![tactic(auto)]
 
 #[cfg(test)]

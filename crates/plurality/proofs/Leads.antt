@@ -1,4 +1,4 @@
--- What the values of a claim sum up to, and what the outcome of a contest says of first preferences.
+-- What the values of a claim add up to, and what the outcome of a contest says about first preferences.
 use Rattle.std.proofs.Common.{◌≡◌, ◌≢◌, ◌∙◌, ◌==◌, ◌⊎◌, inl, inr, ℕ, ◌+◌, ◌<◌, ◌≤◌, Bool, true, false, not, cond, nat_lt, if◌then◌else◌, List, [], ◌∷◌, All, length, get_or, sum_by, refl, sym, ap, subst, arith, eq-eqb, eqb-true, ltb-true, ne_eqb, true≢false}
 use Rattle.std.specs.List.{list_all}
 use Rattle.std.proofs.lemmas.Bool.{and_from, cases_Bool, ltb-false}
@@ -13,7 +13,7 @@ use Rattle.plurality.specs.Plurality.{WinsPlurality, first_preferences}
 use Rattle.plurality.specs.Plural.{Outcome, lead, values_of}
 use Rattle.plurality.specs.Laws.{LeadLaw, WinnerIsFirst, WonOrAnother}
 
--- ---- each ranking is worth 1, and one more or one less where it counts
+-- ---- each ranking is worth 1, and one more or one less if it counts
 pub lead_law : LeadLaw
 lead_law winner loser [] differ = refl
 lead_law winner loser (r ∷ records) differ =
@@ -39,7 +39,7 @@ lead_law winner loser (r ∷ records) differ =
     apart [] h = refl
     apart (c ∷ rest) h = ne_eqb c loser (λ e. differ (sym (eqb-true c winner h) ∙ e))
 
--- a card counts for 2 at most
+-- a card counts as 2 at most
 pub lead-few : (winner loser : ℕ) (ranking : List ℕ) → lead winner loser ranking ≤ 2
 lead-few winner loser ranking = few (is_first ranking winner) (is_first ranking loser) where
   few : (p q : Bool) → (if p then 2 else (if q then 0 else 1)) ≤ 2
@@ -47,7 +47,7 @@ lead-few winner loser ranking = few (is_first ranking winner) (is_first ranking 
   few false true = omega arith
   few false false = omega arith
 
--- ---- the others than the winner
+-- ---- the candidates other than the winner
 pub rival : (n winner other : ℕ) → other < n → other ≢ winner → Member other (all_but n winner)
 rival n winner other below differs =
     member-filter (λ c. not (c == winner)) (candidates n) (candidate-member other n below) (ap not (ne_eqb other winner differs))
@@ -69,7 +69,7 @@ member-all P xs all x m =
     let (k, below, at) = contains-from_member m in
     subst P at (all k x below)
 
--- ---- the claims are true where the winner has more first preferences
+-- ---- the claims are true if the winner has more first preferences
 pub winner_is_first : WinnerIsFirst
 winner_is_first n outcome records are = (won, true-of) where
   of : ℕ → Type 0
@@ -92,7 +92,7 @@ winner_is_first n outcome records are = (won, true-of) where
       let sums = lead_law outcome.winner loser records (λ e. differs (sym e)) in
       omega arith))
 
--- ---- the winner has won, or another has as many
+-- ---- the winner has won, or another candidate has as many
 some-fails : (p : ℕ → Bool) (xs : List ℕ) → (list_all p xs ≡ true) ⊎ ((x : ℕ) × Member x xs × (p x ≡ false))
 some-fails p [] = inl refl
 some-fails p (x ∷ xs) = elim (cases_Bool (p x)) [

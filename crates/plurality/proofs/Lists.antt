@@ -1,4 +1,4 @@
--- Candidates that pass a test, one after the other; maps and filters by functions that are the same where it matters; the greatest number.
+-- Candidates that pass a test, in order; maps and filters by functions that agree where it matters; the greatest number.
 use Rattle.std.proofs.Common.{◌≡◌, ◌∙◌, ◌⊎◌, inl, inr, ℕ, suc, ◌+◌, ◌<◌, ◌≤◌, max, nat_le, Bool, true, false, cond, List, [], ◌∷◌, ◌++◌, length, map, filter, fold, take, drop, get_or, refl, sym, ap, subst, arith}
 use Rattle.std.proofs.Math.Seq.{split_at}
 use Rattle.std.proofs.lemmas.Bool.{cases_Bool, leb-false, leb-true}
@@ -9,7 +9,7 @@ use Rattle.irv_base.proofs.Members.{Member, here, there, member_at, member_cases
 use Rattle.irv_base.proofs.Distinct.{Distinct, more, distinct-head, distinct-split, distinct-tail}
 use Rattle.irv_base.proofs.Ranges.{candidates-more}
 
--- ---- one candidate more
+-- ---- one more candidate
 pub filter-yes : (p : ℕ → Bool) (n : ℕ) → p n ≡ true → filter p (candidates (n + 1)) ≡ filter p (candidates n) ++ n ∷ []
 filter-yes p n passes =
     ap (filter p) (candidates-more n) ∙ filter-append p (candidates n) (n ∷ []) ∙ ap (λ b. filter p (candidates n) ++ cond b (n ∷ []) []) passes
@@ -19,7 +19,7 @@ filter-no p n fails =
     ap (filter p) (candidates-more n) ∙ filter-append p (candidates n) (n ∷ []) ∙ ap (λ b. filter p (candidates n) ++ cond b (n ∷ []) []) fails
     ∙ append-nil (filter p (candidates n))
 
--- ---- by functions that are the same of each element
+-- ---- by functions that agree on each element
 pub filter-same : {X : Type 0} (p q : X → Bool) (xs : List X) → ((x : X) → Member x xs → p x ≡ q x) → filter p xs ≡ filter q xs
 filter-same p q [] h = refl
 filter-same p q (x ∷ xs) h =
@@ -34,7 +34,7 @@ map-same f g (x ∷ xs) h =
     let rest = map-same f g xs (λ y m. h y (there m)) in
     λ i. first i ∷ rest i
 
--- ---- what passes stands once where all do
+-- ---- each element that passes occurs once if every element occurs once
 pub distinct-filter : {X : Type 0} (p : X → Bool) (xs : List X) → Distinct xs → Distinct (filter p xs)
 distinct-filter p [] d = d
 distinct-filter {X} p (x ∷ xs) d = step (p x) (distinct-filter p xs (distinct-tail d)) where
@@ -49,7 +49,7 @@ apart-before xs i x d below is =
     distinct-split (take i xs) x (drop (suc i) xs)
     (subst Distinct (split_at xs i x below ∙ ap (λ y. take i xs ++ y ∷ drop (suc i) xs) (sym is)) d)
 
--- ---- the greatest number is at least each, and one of them
+-- ---- the greatest number is at least each number, and is one of them
 pub max-bounds : (a : ℕ) (xs : List ℕ) → (a ≤ fold max a xs) × ((x : ℕ) → Member x xs → x ≤ fold max a xs)
 max-bounds a [] = (omega arith, λ x m. absurd (member_nil m))
 max-bounds a (y ∷ xs) =

@@ -1,4 +1,4 @@
--- The margins of an outcome: there is one for each loser, from one vote up to the number of the records.
+-- The margins of an outcome. There is one for each loser, from one vote up to the number of records.
 use Rattle.std.proofs.Common.{◌≡◌, ◌==◌, inl, inr, ℕ, ◌≤◌, Ok, List, [], ◌∷◌, All, length, sym, subst, arith, eqb-true}
 use Rattle.std.proofs.lemmas.Bool.{cases_Bool, eqb-false}
 use Rattle.std.proofs.lemmas.List.{length-map}

@@ -25,7 +25,7 @@ leaders-differ n records =
 pub loser-below : (n w loser : ℕ) → Member loser (all_but n w) → loser < n
 loser-below n w loser m = from_candidates (from_filter (λ c. not (c == w)) (candidates n) m).0
 
--- ---- one who leads alone has won, and else there is a tie
+-- ---- a sole leader has won, and otherwise there is a tie
 pub is-tie : (n : ℕ) (records : List (List ℕ)) (those : List ℕ) → length those ≢ 1 →
     outcome_with n records those ≡ Err (record { tied = set_of those; tally = greatest n records })
 is-tie n records [] several = refl

@@ -81,7 +81,7 @@ module _ (batches : Batches) (ballots : BallotFile) (outcome : Outcome) (publish
 pub published_are_claims : PublishedAreClaims
 published_are_claims batches ballots outcome published = are-claims batches ballots outcome published
 
--- ---- where another has as many first preferences, the claim against them isn't true
+-- ---- if another candidate has as many first preferences, the claim against that candidate isn't true
 untrue : (n cards : ℕ) (outcome : Outcome) (actual : List (List ℕ)) → HasRivals n outcome → HaveAnother n outcome.winner cards actual →
     (claim : Audited) × Contains (claims_of outcome) claim × IsUntrue claim actual
 untrue n cards outcome actual rivals another =

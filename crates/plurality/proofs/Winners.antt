@@ -12,7 +12,7 @@ use Rattle.plurality.specs.Ties.{AreTied}
 use Rattle.plurality.proofs.Lists.{distinct-filter, max-bounds, max-reached}
 use Rattle.plurality.proofs.Outcomes.{leader-below, leader-has}
 
--- ---- what an outcome says of those who lead
+-- ---- what an outcome says about those who lead
 pub from_won : (n : ℕ) (records : List (List ℕ)) (those : List ℕ) (outcome : Outcome) → outcome_with n records those ≡ Ok outcome →
     (winner : ℕ) × (those ≡ winner ∷ []) × (outcome ≡ won_by n records winner)
 from_won n records [] outcome is = absurd cc
@@ -47,7 +47,7 @@ module _ (n : ℕ) (records : List (List ℕ)) where
   leaders-apart : Distinct (leaders n records)
   leaders-apart = distinct-filter (λ d. firsts d == greatest n records) (candidates n) (distinct-range 0 n)
 
-  -- ---- a winner leads alone
+  -- ---- a winner is the sole leader
   only : (w : ℕ) (xs : List ℕ) → Distinct xs → Member w xs → ((x : ℕ) → Member x xs → x ≡ w) → xs ≡ w ∷ []
   only w [] d m each = absurd (member_nil m)
   only w (x ∷ []) d m each = ap (λ y. y ∷ []) (each x here)
@@ -74,7 +74,7 @@ module _ (n : ℕ) (records : List (List ℕ)) where
           absurd (omega (arith, winner-has))
     ])
 
-  -- ---- who leads alone has more than each other
+  -- ---- a sole leader has more than every other candidate
   pub alone-wins : (winner : ℕ) → leaders n records ≡ winner ∷ [] → WinsPlurality n records winner
   alone-wins winner alone other below differs =
       let has' = leader-has n records winner (subst (Member winner) (sym alone) here) in
@@ -121,7 +121,7 @@ from_tie n records tie some is =
       both_lead = (leader-has n records one first ∙ sym tally, leader-has n records other second ∙ sym tally);
     }
 
--- of two or more nobody has won
+-- if two or more candidates are tied, nobody has won
 several-tie : (n : ℕ) (records : List (List ℕ)) (those : List ℕ) (one other : ℕ) → one ≢ other → Member one those → Member other those →
     outcome_with n records those ≡ Err (record { tied = set_of those; tally = greatest n records })
 several-tie n records [] one other differ first second = absurd (member_nil first)

@@ -13,7 +13,7 @@ abbrev pub three_two_one : List (List ℕ)
 three_two_one =
     (0 ∷ 2 ∷ []) ∷ (0 ∷ []) ∷ (0 ∷ []) ∷ (1 ∷ 2 ∷ []) ∷ (1 ∷ 2 ∷ []) ∷ (2 ∷ 1 ∷ []) ∷ [] ∷ []
 
--- 0 against two whom nobody has first
+-- candidate 0 against two whom nobody ranks first
 abbrev pub two_for_one : List (List ℕ)
 two_for_one = (0 ∷ 1 ∷ []) ∷ (0 ∷ 2 ∷ []) ∷ []
 

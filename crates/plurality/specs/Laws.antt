@@ -19,13 +19,13 @@ use Rattle.plurality.specs.RiskLimit.{ArePublished, HaveAnother}
 
 -- ==== the outcome
 
--- a candidate has won exactly if each other has fewer first preferences
+-- a candidate has won exactly if every other candidate has fewer first preferences
 abbrev pub WonLaw : Type 0
 WonLaw =
     (n winner : ℕ) (records : List (List ℕ)) → winner < n →
     (WinsPlurality n records winner ↔ (outcome_of n records ≡ Ok (won_by n records winner)))
 
--- there is a tie exactly if there is no outcome, and it is this one
+-- there is a tie exactly if there is no outcome, and the tie is this one
 abbrev pub TieLaw : Type 0
 TieLaw =
     (n : ℕ) (records : List (List ℕ)) (tie : Tie) → 1 ≤ n →
@@ -33,15 +33,15 @@ TieLaw =
 
 -- ==== the claims
 
--- what the records count for is one each, and the difference of first preferences
+-- what the records count for adds up to one for each record, plus the difference in first preferences
 abbrev pub LeadLaw : Type 0
 LeadLaw =
     (winner loser : ℕ) (records : List (List ℕ)) → winner ≢ loser →
     sum_by (lead winner loser) records + first_preferences records loser
     ≡ length records + first_preferences records winner
 
--- all claims are true of any rankings, with a mean value of more than 1, exactly if the winner has strictly more first preferences than
--- each other
+-- for any rankings, all claims are true, each with a mean value of more than 1, exactly if the winner has strictly more first preferences
+-- than every other candidate
 abbrev pub WinnerIsFirst : Type 0
 WinnerIsFirst =
     (n : ℕ) (outcome : Outcome) (records : List (List ℕ)) →
@@ -49,7 +49,7 @@ WinnerIsFirst =
     (All (λ value. length records < sum_by value records) (values_of outcome)
     ↔ WinsPlurality n records outcome.winner)
 
--- for any rankings either the winner has won, or another has as many first preferences
+-- for any rankings, either the winner has won, or another candidate has at least as many first preferences
 abbrev pub WonOrAnother : Type 0
 WonOrAnother =
     (n winner : ℕ) (actual : List (List ℕ)) →
@@ -64,7 +64,7 @@ PublishedAreClaims =
     ArePublished batches ballots outcome →
     AreClaims (claims_of outcome) (linked_of batches ballots)
 
--- a winner among n candidates whose rivals are all the others, with a margin each
+-- a winner among n candidates whose rivals are all the others, with one margin for each
 pub record HasRivals (n : ℕ) (outcome : Outcome) : Type 0 where
   pub losers_are : outcome.losers ≡ all_but n outcome.winner
   pub margin_each : length outcome.margins ≡ length outcome.losers
@@ -79,7 +79,7 @@ ClaimsRiskLimit =
     AreSignedOff limit gamma (claims_of outcome) recorded actual draws signed →
     length signed * millionths_in_one ≤ limit * length recorded ^ draws
 
--- the risk limit as a count of the listed sequences, if what is read of the cards is fixed before anything is drawn
+-- the risk limit as a count of the listed sequences, if what is read from the cards is fixed before anything is drawn
 abbrev pub CountedRiskLimit : Type 0
 CountedRiskLimit =
     (limit gamma n draws : ℕ) (outcome : Outcome) (recorded : List Recorded)

@@ -12,12 +12,12 @@ pub record Outcome : Type 0 where
   pub losers : List ℕ
   pub margins : List ℕ
 
--- the set of those who share the greatest number of first preferences, and that number
+-- the set of the candidates who share the greatest number of first preferences, and that number
 pub record Tie : Type 0 where
   pub tied : ℕ
   pub tally : ℕ
 
--- ---- what the records say of n candidates
+-- ---- what the records say about n candidates
 
 module _ (n : ℕ) (records : List (List ℕ)) where
   abbrev pub margin : ℕ → ℕ → ℕ
@@ -30,7 +30,7 @@ module _ (n : ℕ) (records : List (List ℕ)) where
     margins = map (margin winner) (all_but n winner);
   }
 
-  -- one who leads alone has won
+  -- a sole leader has won
   abbrev pub outcome_with : List ℕ → Result Outcome Tie
   outcome_with (winner ∷ []) = Ok (won_by winner)
   outcome_with tied = Err (record { tied = set_of tied; tally = greatest n records })
@@ -45,10 +45,10 @@ abbrev pub lead : ℕ → ℕ → List ℕ → ℕ
 lead winner loser ranking =
     if is_first ranking winner then 2 else (if is_first ranking loser then 0 else 1)
 
--- one for each loser
+-- the values of the claims, one function for each loser
 abbrev pub values_of : Outcome → List (List ℕ → ℕ)
 values_of outcome = map (lead outcome.winner) outcome.losers
 
--- each with its margin
+-- the claims, each with its margin
 abbrev pub claims_of : Outcome → List Audited
 claims_of outcome = audited_by (values_of outcome) outcome.margins

@@ -3,11 +3,11 @@ use Rattle.std.specs.Prelude.{◌≢◌, ℕ, ◌<◌, ◌==◌, max, List, coun
 use Rattle.irv_base.specs.Candidates.{candidates}
 use Rattle.irv_base.specs.Records.{is_first}
 
--- how many records rank c first
+-- the number of records that rank c first
 abbrev pub first_preferences : List (List ℕ) → ℕ → ℕ
 first_preferences records c = count_by (λ ranking. is_first ranking c) records
 
--- among n candidates, each other one has fewer first preferences than the winner
+-- among n candidates, every other candidate has fewer first preferences than the winner
 abbrev pub WinsPlurality : ℕ → List (List ℕ) → ℕ → Type 0
 WinsPlurality n records winner =
     (other : ℕ) → other < n → other ≢ winner →

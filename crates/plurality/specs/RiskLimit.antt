@@ -2,17 +2,17 @@
 -- before it are the premises. The terms (`AreTerms`) and what is counted (`AreSignedOff`) are defined in
 -- `session_state/specs/RiskOfValues.antt`, for claims of any kind: this is one case of `ValuesRiskLimit` there.
 --
--- Ballots and a manifest of the cards are published. The ballots say who has won, and there is a claim for each loser: that the winner
--- has more first preferences (`specs/Plural.antt`). Cards are drawn by their numbers, each time from all of them. A drawn card is looked
--- for, its ranking is read by hand, and it is compared with its record. At the end of a round the audit may be signed off. Suppose that
--- on the cards another candidate has as many first preferences as the winner, or more. Then the audit can be signed off, at any draw, on
--- few of all sequences of n cards.
+-- Ballots and a manifest of the cards are published. The ballots say who has won. For each loser there is a claim that the winner has more
+-- first preferences (`specs/Plural.antt`). Cards are drawn by their numbers, each time from all of them. A drawn card is looked for, its
+-- ranking is read by hand, and it is compared with its record. At the end of a round the audit may be signed off. Suppose that on the
+-- cards another candidate has as many first preferences as the winner, or more. Then the audit can be signed off, at any draw, on few of
+-- all sequences of n cards.
 --
--- Files, limit and gamma are given first, and the sequences are counted after: so in an audit they are fixed and published before the
--- seed is known, as in an audit by assertions (`audit_laws/specs/RiskLimit.antt` has numbers). There is one seed: an audit that begins
--- again with another one is the same audit's second try. The ends of the rounds may be left open.
+-- The files, the limit and gamma are given first, and the sequences are counted afterwards. So in an audit they are fixed and published
+-- before the seed is known, as in an audit by assertions (`audit_laws/specs/RiskLimit.antt` has numbers). There is only one seed: an audit
+-- that begins again with another one is the same audit's second try. The ends of the rounds may be left open.
 --
--- It is a count, and says nothing about chance: that every sequence is drawn as easily as every other is up to the seed.
+-- The promise is a count, and says nothing about chance. It is up to the seed to make every sequence as easy to draw as every other.
 use Rattle.std.specs.Prelude.{◌≢◌, ◌≡◌, ℕ, ◌*◌, ◌^◌, ◌<◌, ◌≤◌, List, length, None, Ok}
 use Rattle.ballots.specs.Ballots.{BallotFile, IsSound as AreSound}
 use Rattle.manifest.specs.Cards.{Batches, AreBatches, cards_of}
@@ -27,12 +27,12 @@ use Rattle.plurality.specs.Plural.{Outcome, claims_of, outcome_of}
 -- two files, and the outcome of the ballots
 pub record ArePublished (batches : Batches) (ballots : BallotFile)
     (outcome : Outcome) : Type 0 where
-  -- what the readers keep of a manifest and of ballots
+  -- what the readers guarantee about a manifest and about ballots
   pub manifest_sound : AreBatches batches.ids batches.counts
   pub ballots_sound : AreSound ballots
   -- each ballot has a card
   pub linked : first_without_card batches ballots ≡ None
-  -- one candidate has the most first preferences
+  -- one candidate has more first preferences than any other
   pub counted : outcome_of (length ballots.candidates) ballots.rankings ≡ Ok outcome
 
 -- the actual rankings of the cards, whatever they are: another candidate has as many first preferences as the winner, or more
@@ -45,7 +45,7 @@ pub record HaveAnother (n winner cards : ℕ) (actual : List (List ℕ)) : Type 
 
 -- ---- what is promised
 
--- of all cards ^ n sequences, they are at most limit millionths
+-- the audit can be signed off on at most limit millionths of all cards ^ n sequences
 abbrev pub PluralityRiskLimit : Type 0
 PluralityRiskLimit =
     (limit gamma n : ℕ) (batches : Batches) (ballots : BallotFile) (outcome : Outcome)

@@ -4,7 +4,7 @@ use Rattle.irv_base.specs.Candidates.{has}
 use Rattle.plurality.specs.Plurality.{first_preferences}
 use Rattle.plurality.specs.Plural.{Tie}
 
--- two of the candidates share the greatest number of first preferences, and the set has those who do, and nobody besides
+-- two of the candidates share the greatest number of first preferences, and the set has exactly the candidates who share it
 pub record AreTied (n : ℕ) (records : List (List ℕ)) (tie : Tie) : Type 0 where
   pub most : (c : ℕ) → c < n → first_preferences records c ≤ tie.tally
   pub tied_are : (c : ℕ) →

@@ -1,4 +1,4 @@
-//! Worked examples: the definitions at a few ballots, computed by the checker.
+//! Worked examples: the definitions applied to a few ballots, computed by the checker.
 ghost use Rattle.std.specs.Prelude.{◌≡◌, [], ◌∷◌, Err, Ok, count_by, sum_by};
 ghost use Rattle.std.specs.List.{range_with_len};
 ghost use Rattle.km_risk.specs.Reach.{sequences};
@@ -17,7 +17,7 @@ pub fn values()
     ensures none { lead 0 1 [] ≡ 1 }
 {}
 
-/// Seven ballots, of which three have candidate 0 first, two candidate 1, one candidate 2 and one nobody.
+/// Seven ballots: three rank candidate 0 first, two rank candidate 1 first, one ranks candidate 2 first, and one ranks nobody.
 pub fn three_candidates()
     ensures outcome { outcome_of 3 examples.three_two_one
         ≡ Ok (record { winner = 0; losers = 1 ∷ 2 ∷ []; margins = 1 ∷ 2 ∷ [] }) }
@@ -25,21 +25,21 @@ pub fn three_candidates()
     ensures third { sum_by (lead 0 2) examples.three_two_one ≡ 9 }
 {}
 
-/// Candidates whom nobody has first are losers too.
+/// Candidates whom nobody ranks first are losers too.
 pub fn nobodys_first()
     ensures { outcome_of 3 examples.two_for_one
         ≡ Ok (record { winner = 0; losers = 1 ∷ 2 ∷ []; margins = 2 ∷ 2 ∷ [] }) }
 {}
 
-/// A ballot each, and no ballot with a preference.
+/// A tie of two candidates with one ballot each, and a tie in which no ballot has a preference.
 pub fn ties()
     ensures one_each { outcome_of 3 ((0 ∷ []) ∷ (2 ∷ []) ∷ [])
         ≡ Err (record { tied = 5; tally = 1 }) }
     ensures nobody { outcome_of 2 ([] ∷ []) ≡ Err (record { tied = 3; tally = 0 }) }
 {}
 
-/// Two cards are recorded for candidate 0, and in truth there is a tie. At a limit of 0.7 a draw of the first card is
-/// enough, and a draw of the second isn't: of the two sequences of one card, one is signed off, and 1 of 2 is at most 0.7.
+/// Two cards are recorded for candidate 0, but in truth there is a tie. At a limit of 0.7 a draw of the first card is
+/// enough, and a draw of the second isn't. So one of the two sequences of one card is signed off, and 1 of 2 is at most 0.7.
 pub fn wrong_winner()
     ensures published { ArePublished
         examples.two_batches examples.two_ballots examples.two_outcome }

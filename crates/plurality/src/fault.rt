@@ -12,12 +12,12 @@ use std::fmt;
 pub enum PluralFault {
     /// Two or more candidates share the greatest number of first preferences.
     Tie {
-        /// Who they are.
+        /// The candidates who share it.
         tied: CandSet,
-        /// How many first preferences each of them has.
+        /// The number of first preferences that each of them has.
         tally: u32,
     },
-    /// Memory could not be had.
+    /// Memory could not be allocated.
     Memory,
 }
 

@@ -8,7 +8,7 @@ ghost use Rattle.plurality.specs.Plurality.{first_preferences};
 use irv_base::{CandSet, Candidate, Memory, Rankings};
 use std::alloc::Global;
 
-// Counts a ranking for the candidate whom it has first.
+// Counts a ranking for the candidate it ranks first.
 fn count_first(firsts: &mut [u32], ranking: &[Candidate])
     requires below { All (λ c. c < length firsts.old) ranking.now }
     requires fit { All (λ number. number < MOST_RECORDS) firsts.old }
@@ -21,7 +21,7 @@ fn count_first(firsts: &mut [u32], ranking: &[Candidate])
     }
 }
 
-/// How many of these rankings have each of n candidates first.
+/// For each of n candidates, the number of these rankings that rank the candidate first.
 pub fn first_preferences(alloc: Global, n: u32, rankings: &Rankings) -> Result<Vec<u32>, Memory>
     requires most { length rankings.now ≤ MOST_RECORDS }
     requires below { All (λ ranking. All (λ c. c < n) ranking) rankings.now }
@@ -46,7 +46,7 @@ pub fn greatest(numbers: &[u32]) -> u32
     greatest
 }
 
-/// The candidates with this number, in the order of theirs.
+/// The candidates for whom `numbers` has this number, in the order of the candidates' own numbers.
 pub fn with_number(alloc: Global, numbers: &[u32], number: u32) -> Result<Vec<Candidate>, Memory>
     requires { length numbers.now ≤ ROOM }
     ensures { IfOk result (λ those. those.items
@@ -61,7 +61,7 @@ pub fn with_number(alloc: Global, numbers: &[u32], number: u32) -> Result<Vec<Ca
     Ok(those)
 }
 
-/// The n candidates but one, in the order of their numbers.
+/// The n candidates except one, in the order of their numbers.
 pub fn all_but(alloc: Global, n: u32, one: Candidate) -> Result<Vec<Candidate>, Memory>
     requires { n ≤ ROOM }
     ensures { IfOk result (λ others. others.items ≡ all_but n one) }

@@ -3,13 +3,13 @@ ghost use Rattle.plurality.specs.Laws.{ClaimsRiskLimit, CountedRiskLimit, LeadLa
 ghost use Rattle.plurality.specs.Laws.{TieLaw, WinnerIsFirst, WonLaw, WonOrAnother};
 ghost use Rattle.plurality.specs.RiskLimit.{PluralityRiskLimit};
 
-/// If another candidate has as many first preferences on the cards, or more, the audit can be signed off on at most `limit` millionths of
-/// all sequences of `n` cards.
+/// If another candidate has as many first preferences on the cards as the winner, or more, the audit can be signed off on at most `limit`
+/// millionths of all sequences of `n` cards.
 pub fn plurality_risk_limit()
     ensures { PluralityRiskLimit }
 {}
 
-/// The risk limit of the claims alone, if each margin is that of its claim.
+/// The risk limit of the claims by themselves, if each margin is that of its claim.
 pub fn claims_risk_limit()
     ensures { ClaimsRiskLimit }
 {}
@@ -19,22 +19,22 @@ pub fn counted_risk_limit()
     ensures { CountedRiskLimit }
 {}
 
-/// The claims that published ballots give have their margins over the linked records.
+/// The claims that follow from published ballots have their margins over the linked records.
 pub fn published_are_claims()
     ensures { PublishedAreClaims }
 {}
 
-/// A contest has an outcome exactly if one candidate has more first preferences than each other.
+/// A contest has an outcome exactly if one candidate has more first preferences than every other.
 pub fn won()
     ensures { WonLaw }
 {}
 
-/// It has none exactly if two candidates or more share the greatest number: the tie is theirs.
+/// A contest has no outcome exactly if two or more candidates share the greatest number. The tie is theirs.
 pub fn tie()
     ensures { TieLaw }
 {}
 
-/// The values of a claim sum up to the difference of first preferences above the number of rankings.
+/// The values of a claim add up to the number of rankings plus the difference in first preferences.
 pub fn lead()
     ensures { LeadLaw }
 {}
@@ -44,7 +44,7 @@ pub fn winner_is_first()
     ensures { WinnerIsFirst }
 {}
 
-/// For any rankings the winner has won, or another has as many first preferences.
+/// For any rankings, either the winner has won, or another candidate has at least as many first preferences.
 pub fn won_or_another()
     ensures { WonOrAnother }
 {}

@@ -1,5 +1,5 @@
-//! Plurality contests: who has strictly the most first preferences, the claims that this is so of each loser, and the risk
-//! limit of their audit.
+//! Plurality contests: who has strictly the most first preferences, the claims that the winner has more than each loser, and the
+//! risk limit of their audit.
 #![tactic(auto)]
 
 pub mod examples;

@@ -10,7 +10,7 @@ use ballots::Ballots;
 use irv_base::{Candidate, Memory};
 use std::alloc::Global;
 
-// How many votes more than each loser the winner has, of these numbers.
+// By how many votes, according to these numbers, the winner leads each loser.
 fn margins(
     alloc: Global,
     firsts: &[u32],
@@ -30,9 +30,9 @@ fn margins(
     Ok(margins)
 }
 
-/// The winner of the contest, if one candidate has more first preferences than each other, with the losers and the margins.
+/// Returns the winner of the contest, if one candidate has more first preferences than every other, with the losers and the margins.
 ///
-/// It is refused if two or more share the greatest number, also if no ballot has a preference.
+/// The contest is refused if two or more candidates share the greatest number, even if no ballot has a preference.
 pub fn plurality(alloc: Global, b: &Ballots) -> Result<Plural, PluralFault>
     ensures outcome { IfOk result (λ plural.
         outcome_of (length b.now.candidates) b.now.rankings ≡ Ok plural) }

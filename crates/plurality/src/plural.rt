@@ -6,10 +6,10 @@ use audit_session::Claims;
 use irv_base::{Candidate, Ranking};
 use std::marker::Model;
 
-/// The outcome of a plurality contest: its winner, its losers in the order of their numbers, and for each loser how many first
-/// preferences the winner has more, in votes.
+/// The outcome of a plurality contest: its winner, its losers in the order of their numbers, and for each loser the number of votes by
+/// which the winner leads in first preferences.
 ///
-/// To a contract it is the record of these values, with a list for each list.
+/// In a contract it is the record of these values, with a list for each list.
 #[derive(Drop)]
 pub struct Plural {
     winner: Candidate,
@@ -45,7 +45,7 @@ impl Plural {
         }
     }
 
-    /// Who has the most first preferences.
+    /// The candidate with the most first preferences.
     pub fn winner(&self) -> Candidate
         ensures { result ≡ self.now.winner }
     {
@@ -59,7 +59,7 @@ impl Plural {
         self.losers.as_slice()
     }
 
-    /// How many first preferences the winner has more than each loser.
+    /// For each loser, how many more first preferences the winner has.
     pub fn margins(&self) -> &[u32]
         ensures { result.now ≡ self.now.margins }
     {
@@ -67,7 +67,7 @@ impl Plural {
     }
 }
 
-// What a ranking counts as for the claim that the winner has more first preferences than the loser.
+// The value of a ranking for the claim that the winner has more first preferences than the loser.
 fn lead(winner: Candidate, loser: Candidate, r: &Ranking) -> u8
     ensures value { result ≡ lead winner loser r.now }
     ensures most { result ≤ 2 }
@@ -79,7 +79,7 @@ fn lead(winner: Candidate, loser: Candidate, r: &Ranking) -> u8
     }
 }
 
-/// There is a claim for each loser, in their order: that the winner has more first preferences.
+/// For each loser, in order, there is a claim that the winner has more first preferences.
 impl Claims for Plural {
     ghost values = { values_of };
 

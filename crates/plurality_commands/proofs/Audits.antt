@@ -1,4 +1,4 @@
--- A round comes to one end.
+-- A round has one end.
 use Rattle.std.proofs.Common.{ℕ, List, [], length, Ok, refl}
 use Rattle.manifest.specs.Cards.{cards_of}
 use Rattle.manifest.specs.Linked.{linked_of}

@@ -1,4 +1,4 @@
--- A contest is counted: the command goes on with the outcome, or ends with the tie.
+-- A contest is counted, and then the command continues with the outcome, or ends with the tie.
 use Rattle.std.proofs.Common.{◌≡◌, ◌∙◌, ◌≤◌, inl, inr, true, List, All, Contains, length, None, Result, Ok, Err, sym, ap, subst, arith}
 use Rattle.irv_base.specs.Names.{all_differ}
 use Rattle.manifest.specs.Cards.{Batches, cards_of}
@@ -34,13 +34,13 @@ won-kinds kinds ballots next tie-there each = by (outcome_in ballots) where
   by (Ok won) = each won
   by (Err tie) = λ v is. subst (IsOfKind kinds) (sym is) tie-there
 
--- ---- what it comes to
+-- ---- how it ends
 
 pub won_on : {x y : Served} (readings : Readings) (ballots : BallotFile) (next : Outcome → Script) (won : Outcome) (due : Due) →
     outcome_in ballots ≡ Ok won → HasCome readings x y (Runs (next won)) due → HasCome readings x y (Runs (if_won ballots next)) due
 won_on readings ballots next won due is come = judged_on readings _ next won due (ap (told (tied ballots)) is) come
 
--- its tie is told
+-- its tie is reported
 pub tied_now : (ballots : BallotFile) (next : Outcome → Script) (due : Due) → IsOneOrMemory (TellsOfTie ballots) due → EndsNow (if_won ballots next) due
 tied_now ballots next due (inl (verdict, (tie, is, tells), ends)) =
     subst (λ counted. EndsNow (go_on (told (tied ballots) counted) next) due) (sym is) (inl (verdict, tells, ends))
@@ -48,7 +48,7 @@ tied_now ballots next due (inr memory) = memory_now (if_won ballots next) due me
 
 -- ---- the margins
 
--- a margin is at least one vote, and at most the number of the cards
+-- a margin is at least one vote, and at most the number of cards
 pub margins_within : (batches : Batches) (ballots : BallotFile) (won : Outcome) → outcome_in ballots ≡ Ok won → all_differ ballots.ids ≡ true →
     length ballots.ids ≡ length ballots.rankings → first_without_card batches ballots ≡ None →
     All (λ votes. (1 ≤ votes) × (votes ≤ length (cards_of batches))) won.margins

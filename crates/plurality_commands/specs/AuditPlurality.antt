@@ -1,4 +1,4 @@
--- `plurality SESSION BALLOTS MANIFEST SEEN`: the session of a plurality contest goes on by a round.
+-- `plurality SESSION BALLOTS MANIFEST SEEN`: the session of a plurality contest continues by a round.
 use Rattle.std.specs.Prelude.{ℕ, List, [], ◌∷◌, length, Result, Ok}
 use Rattle.ballots.specs.Ballots.{BallotFile}
 use Rattle.manifest.specs.Cards.{Batches, cards_of}
@@ -17,7 +17,7 @@ use Rattle.session_rounds.specs.Rounds.{session_to_go_on, with_ballots, with_man
 use Rattle.plurality_commands.specs.Outcome.{if_won}
 
 module _ (task : AuditPluralityTask) where
-  -- the session goes on, and is one of no assertion file: it has the digest of no bytes
+  -- the session continues, and has no assertion file: it has the digest of no bytes
   abbrev pub plural_session : List ℕ → Result Content Verdict
   plural_session bytes =
       then_judged (session_to_go_on task.session task.draws bytes) (λ session.
@@ -25,7 +25,7 @@ module _ (task : AuditPluralityTask) where
 
   -- ---- the files, the last one first
 
-  -- the session has to be one of the inputs, and goes on by the claims of the outcome
+  -- the session must be one of the inputs, and continues by the claims of the outcome
   abbrev pub after_count : Content → BallotFile → Batches → Outcome → Script
   after_count session ballots batches outcome =
       one_round task.session task.seen task.draws

@@ -29,7 +29,7 @@ opened task ballots batches digests outcome =
     Answered Done (session_text (begun_with ballots.contest (length (cards_of batches))
     outcome.margins task.seed task.limit task.gamma digests))
 
--- or the tie is printed
+-- the session is opened, or the tie is printed
 abbrev pub opened_or_tied :
     OpenPluralityTask → BallotFile → Batches → Digests → Result Outcome Tie → Verdict
 opened_or_tied task ballots batches digests (Ok outcome) =

@@ -1,4 +1,4 @@
-// `plurality SESSION BALLOTS MANIFEST SEEN`: the session of a plurality contest goes on by a round.
+// `plurality SESSION BALLOTS MANIFEST SEEN`: the session of a plurality contest continues by a round.
 ghost use Rattle.std.specs.Prelude.{◌≡◌, ◌≤◌, Ok, IfOk};
 ghost use Rattle.desk.specs.Count.{Rose};
 ghost use Rattle.irv_base.specs.declared.limits.TheConstants.{MOST_DRAWS};
@@ -46,7 +46,7 @@ pub fn answer<D: Desk>(
     after_session(alloc, desk, task, session)
 }
 
-// The session in the bytes of its file, which goes on and has no assertion file.
+// The session in the bytes of its file, which continues and has no assertion file.
 fn plural_session(
     alloc: Global,
     task: &AuditPluralityTask,
@@ -61,7 +61,7 @@ fn plural_session(
     Ok(session)
 }
 
-// The ballots of the session's contest are read.
+// Reads the ballots of the session's contest.
 fn after_session<D: Desk>(
     alloc: Global,
     desk: &mut D,
@@ -82,7 +82,7 @@ fn after_session<D: Desk>(
     after_ballots(alloc, desk, task, session, &ballots)
 }
 
-// The manifest is read, in which each ballot has a card.
+// Reads the manifest, in which each ballot must have a card.
 fn after_ballots<D: Desk>(
     alloc: Global,
     desk: &mut D,
@@ -111,7 +111,7 @@ fn after_ballots<D: Desk>(
     count(alloc, desk, task, session, ballots, &cards)
 }
 
-// The ballots are counted, once they have their cards.
+// Counts the ballots, once they have their cards.
 fn count<D: Desk>(
     alloc: Global,
     desk: &mut D,
@@ -136,7 +136,7 @@ fn count<D: Desk>(
     }
 }
 
-// The session has to be one of the inputs, and goes on by the claims of the outcome.
+// The session must be one of the inputs, and continues by the claims of the outcome.
 fn after_count<D: Desk>(
     alloc: Global,
     desk: &mut D,

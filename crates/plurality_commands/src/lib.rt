@@ -1,4 +1,4 @@
-//! The commands on plurality contests, one a module: the session of an audit is opened, and goes on by a round.
+//! The commands on plurality contests, one per module: they open the session of an audit, and continue it by a round.
 #![tactic(auto)]
 
 pub mod audit_plurality;

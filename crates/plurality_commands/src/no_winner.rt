@@ -1,4 +1,4 @@
-// The answer to a plurality contest without a winner.
+// The answer for a plurality contest without a winner.
 ghost use Rattle.std.specs.Prelude.{◌≡◌, ◌≤◌, length};
 ghost use Rattle.irv_base.specs.declared.limits.TheConstants.{ROOM};
 ghost use Rattle.cli_base.specs.Due.{due, IsOneOrMemory};
@@ -15,7 +15,7 @@ use plurality::PluralFault;
 use report::tie_text;
 use std::alloc::Global;
 
-/// The answer to ballots without an outcome, for the fault of which that is so.
+/// The answer for ballots without an outcome, by the fault that is the reason.
 pub(crate) fn no_winner(
     alloc: Global,
     ballots: &Ballots,
@@ -30,7 +30,7 @@ pub(crate) fn no_winner(
     }
 }
 
-// A tie is printed as one of a first round: who shares the greatest number of first preferences, and that number.
+// The answer that prints a tie like one of a first round: who shares the greatest number of first preferences, and that number.
 fn tie_answer(alloc: Global, names: &[Name], tied: CandSet, tally: u32) -> Result<Answer, Refusal>
     requires { length names.now ≤ ROOM }
     ensures { IsOneOrMemory (λ verdict.

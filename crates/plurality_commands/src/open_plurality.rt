@@ -57,7 +57,7 @@ pub fn answer<D: Desk>(
     after_ballots(alloc, desk, task, &ballots, digest_of(&bytes))
 }
 
-// The manifest is read, in which each ballot has a card. The ballot file has this digest.
+// Reads the manifest, in which each ballot must have a card. The ballot file has this digest.
 fn after_ballots<D: Desk>(
     alloc: Global,
     desk: &mut D,
@@ -81,7 +81,7 @@ fn after_ballots<D: Desk>(
     count(alloc, task, ballots, &cards.manifest, digests)
 }
 
-// The ballots are counted, once they have their cards.
+// Counts the ballots, once they have their cards.
 fn count(
     alloc: Global,
     task: &OpenPluralityTask,
@@ -118,7 +118,7 @@ fn open(
     ensures { IsOneOrMemory (λ verdict.
         verdict ≡ opened task.now ballots.now manifest.now digests plural.now) (due result) }
 {
-    // Asks for what their contracts say of the ballots: a session may begin with the margins of their outcome.
+    // Called for what their contracts say about the ballots: a session may begin with the margins of their outcome.
     let _ids = ballots.ids();
     let _candidates = ballots.candidates();
     let margins = plural.margins().to_vec(alloc)?;

@@ -1,4 +1,4 @@
-//! Tests of plurality contests, from the count of first preferences up to the commands, by their public calls.
+//! Tests of plurality contests, from the count of first preferences up to the commands, through their public calls.
 #![tactic(auto)]
 
 #[cfg(test)]

@@ -8,13 +8,13 @@ use irv_base::{CandSet, Candidate, Rankings};
 use plurality::{Plural, PluralFault, plurality};
 use std::alloc::{AllocError, Global};
 
-// The ballots of three candidates, each of whom is first on as many as the lines say.
+// The ballots of three candidates, each of whom is first on as many ballots as the lines say.
 fn ballots(alloc: Global, lines: &str) -> Option<Ballots> {
     let text = format!(in alloc; "1\nContest,7,3,1,2,3\n{lines}").ok()?;
     read_ballots(alloc, text.as_bytes(), None).ok()
 }
 
-// What each claim counts the rankings for, one claim after the other.
+// What each claim counts the rankings for, claim by claim.
 fn values_of<T: Claims>(
     alloc: Global,
     claims: &T,

@@ -1,5 +1,5 @@
 // Tests of `plurality_commands`: a contest whose runoff another candidate wins, and the audit of a single card. The digests and the texts
-// are those of Python's hashlib and json.
+// come from Python's hashlib and json.
 ghost use Rattle.std.specs.Prelude.{◌≤◌};
 ghost use Rattle.irv_base.specs.declared.limits.TheConstants.{MOST_DRAWS};
 

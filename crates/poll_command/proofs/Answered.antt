@@ -19,7 +19,7 @@ use Rattle.input_files.specs.Refusals.{no_record_text}
 use Rattle.poll_command.specs.Poll.{Polls, answered, counts, is_yes, risks, unseen}
 use Rattle.poll_command.specs.Table.{poll_table}
 
--- each risk is within the limit exactly where the claims are confirmed
+-- each risk is within the limit exactly if the claims are confirmed
 all-within : (limit gamma : ℕ) (seen : List Seen) (drawn : List ℕ) (values : List (List ℕ → ℕ)) →
     list_all (is_risk_within limit) (map (poll_risk gamma) (map (λ value. poll_counts value seen drawn) values)) ≡ is_confirmed limit gamma values seen drawn
 all-within limit gamma seen drawn [] = refl

@@ -21,7 +21,7 @@ module _ (file : Content) where
   abbrev ended : Option ℕ → Option (List ℕ) → Option Verdict
   ended over order = option_or (option_map (spent file) over) (option_map (standing file) order)
 
-  -- they cover, where the poll goes on
+  -- they cover, if the poll continues
   covered-by : (over : Option ℕ) (order : Option (List ℕ)) → ended over order ≡ None → or_spent (option_map Spent over) (verdict_on order) ≡ Ok Covered
   covered-by None None none = refl
   covered-by None (Some order) none = absurd (cc none)
@@ -32,7 +32,7 @@ module _ (file : Content) where
       covered-by (first_over (candidate_count file) file.winner (assertions_of file) nodes)
       (standing_order (candidate_count file) file.winner (assertions_of file)) none
 
-  -- ---- what is named is of the file's candidates
+  -- ---- what the answer names is of the file's candidates
 
   standing-order : (order : List ℕ) → standing_order (candidate_count file) file.winner (assertions_of file) ≡ Some order →
       IsTrue (is_order (candidate_count file) order)

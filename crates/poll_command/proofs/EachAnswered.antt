@@ -23,7 +23,7 @@ gamma_is None within = tt
 gamma_is (Some gamma) within = record { some = within.0; most = within.1 }
 
 module _ (task : PollEachTask) (batches : Batches) (file : Content) (entries : List Entry) where
-  -- an end a claim
+  -- one end per claim
   pub as_many_ends : length (ends task batches file entries) ≡ length file.claims
   as_many_ends =
       let cards : ℕ = length (cards_of batches) in

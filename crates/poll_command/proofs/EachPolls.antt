@@ -1,4 +1,4 @@
--- A poll with a look after each draw comes to one end.
+-- A poll with a look after each draw has one end.
 use Rattle.std.proofs.Common.{ℕ, List, length, Option, None, Some, IfSome, option_map, sym, ap, subst, ◌∙◌}
 use Rattle.sampler.specs.Draws.{drawn_card}
 use Rattle.manifest.specs.Cards.{Batches, cards_of}

@@ -8,7 +8,7 @@ use Rattle.report.specs.Texts.{assertion_text}
 use Rattle.poll_command.specs.EachLines.{end_line, end_lines}
 
 module _ (ids : List Id) (claims : List Claim) (ends : List ClaimEnd) where
-  -- those of the claims from index j on
+  -- the lines of the claims from index j
   abbrev pub lines_from : ℕ → List ℕ
   lines_from j = end_lines ids (drop j claims) (drop j ends)
 

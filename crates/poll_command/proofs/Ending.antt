@@ -1,4 +1,4 @@
--- A poll goes on, or ends before anything is seen.
+-- A poll continues, or ends before anything is seen.
 use Rattle.std.proofs.Common.{◌≡◌, true, inl, inr, Option, None, Some, is_none, sym}
 use Rattle.desk.specs.declared.served.Served.{Served}
 use Rattle.cli_base.specs.Outcome.{Outcome, Verdict}

@@ -1,4 +1,4 @@
--- What a poll that goes on has found of the assertions.
+-- What a poll that continues has found about the assertions.
 use Rattle.std.proofs.Common.{◌≡◌, ℕ, true, None, refl, subst}
 use Rattle.std.proofs.lemmas.List.Elements.{All-contains}
 use Rattle.budget.specs.declared.budget.Budget.TheVariants.{Nodes}

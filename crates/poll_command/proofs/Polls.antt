@@ -1,4 +1,4 @@
--- A poll comes to one end.
+-- A poll has one end.
 use Rattle.std.proofs.Common.{ℕ, Bool, true, false, List, length, Option, None, Some, IfSome, option_map, unwrap_or, refl, sym, ap, subst, ◌∙◌}
 use Rattle.std.specs.Option.{option_or}
 use Rattle.sampler.specs.Draws.{drawn_card}

@@ -40,22 +40,22 @@ module _ (task : PollEachTask) (batches : Batches) (file : Content) (entries : L
   abbrev pub claims : List Polled
   claims = polled_of task.gamma cards file
 
-  -- how each ends
+  -- how each claim ends
   abbrev pub ends : List ClaimEnd
   ends = ends_of task.limit claims seen drawn
 
-  -- a draw confirms each
+  -- a draw confirms each claim
   abbrev pub is_yes : Bool
   is_yes = is_each_confirmed task.limit claims seen drawn
 
-  -- how many draws are asked of: those up to the one that confirms the last claim, or all
+  -- the number of draws that are needed: those up to the one that confirms the last claim, or all
   abbrev pub draws_asked : ℕ
   draws_asked = asked task.limit claims seen drawn
 
   abbrev pub each_text : List ℕ
   each_text = each_table file cards task ends is_yes
 
-  -- the card of one of these draws has no entry: the first such draw
+  -- the first of these draws whose card has no entry, if there is one
   abbrev pub unseen : Option Verdict
   unseen =
       option_map (λ k. Refused task.seen (no_record_text (drawn_card task.seed k cards) k))
@@ -64,20 +64,20 @@ module _ (task : PollEachTask) (batches : Batches) (file : Content) (entries : L
   abbrev pub answered : Verdict
   answered = Answered (confirmed_kind is_yes) each_text
 
-  -- each card that is needed has to be seen; then the poll prints its result
+  -- each card that is needed must have been seen; then the poll prints its result
   abbrev pub PollsEach : Verdict → Type 0
   PollsEach verdict = verdict ≡ unwrap_or unseen answered
 
 -- ---- the files, the last one first
 
 module _ (task : PollEachTask) where
-  -- what is seen of the cards is read
+  -- the command reads what is seen of the cards
   abbrev pub after_cover : Batches → Content → Script
   after_cover batches file = Read task.seen (λ bytes.
       go_on (told (refused_seen task.seen) (seen_of batches file.candidates bytes)) (λ entries.
       Ends (PollsEach task batches file entries)))
 
-  -- nothing is seen before the assertions are known to cover
+  -- the seen file isn't read before the assertions are known to cover
   abbrev pub after_assertions : Batches → Content → Script
   after_assertions batches file = if_covered task.nodes file (after_cover batches file)
 

@@ -23,7 +23,7 @@ number_lines cards draws limit =
     codes "cards " ++ decimal cards ++ codes "\ndraws " ++ decimal draws
     ++ codes "\nlimit " ++ decimal limit ++ codes "\n"
 
--- in thousandths, or the word for the one that fits each claim
+-- gamma in thousandths, or the word for the gamma that fits each claim
 abbrev pub gamma_text : Option ℕ → List ℕ
 gamma_text (Some gamma) = decimal gamma
 gamma_text None = codes "best"
@@ -31,7 +31,7 @@ gamma_text None = codes "best"
 abbrev pub term_lines : List ℕ → List ℕ → List ℕ
 term_lines gamma seed = codes "gamma " ++ gamma ++ codes "\nseed " ++ seed ++ codes "\n"
 
--- of a poll over this many cards
+-- the head of a poll over this many cards
 abbrev pub head_lines : Content → ℕ → PollEachTask → List ℕ
 head_lines file cards task =
     name_lines file.contest (id_of file.candidates file.winner)
@@ -39,7 +39,7 @@ head_lines file cards task =
 
 -- ---- a claim
 
--- which draw confirms it, counted from 1, if one does
+-- which draw confirms the claim, counted from 1, if one does
 abbrev pub confirmed_end : Option ℕ → List ℕ
 confirmed_end (Some k) = codes " confirmed " ++ decimal k ++ codes "\n"
 confirmed_end None = codes " unconfirmed\n"
@@ -50,7 +50,7 @@ end_line assertion end =
     ++ seen_counts_text end.counts ++ codes " risk " ++ risk_text end.risk
     ++ confirmed_end end.confirmed
 
--- by these ids
+-- the lines of the claims by these ids
 abbrev pub end_lines : List Id → List Claim → List ClaimEnd → List ℕ
 end_lines ids [] ends = []
 end_lines ids (claim ∷ claims) [] = []

@@ -10,7 +10,7 @@ use Rattle.polling.specs.declared.counts.PollCounts.{PollCounts}
 abbrev pub leads : ℕ → Claim
 leads other = record { assertion = Neb 0 other; margin = 1 }
 
--- that it leads these is to prove that it wins
+-- a file whose claims, that it leads these candidates, are to prove that it wins
 abbrev pub file_of : List ℕ → Content
 file_of others = record files.three_candidates { winner = 0; claims = map leads others }
 

@@ -30,9 +30,9 @@ use Rattle.input_files.specs.Refusals.{no_record_text, refused_assertions, refus
 use Rattle.check_command.specs.Check.{differs, stands}
 use Rattle.poll_command.specs.Table.{poll_table}
 
--- ---- the assertions have to refute each order that elects another candidate
+-- ---- the assertions must refute each order that elects another candidate
 
--- for this candidate more suffixes count than there are nodes
+-- more suffixes count for this candidate than there are nodes
 abbrev pub spent : Content → ℕ → Verdict
 spent file last = Answered Spent (spent_at (id_of file.candidates last))
 
@@ -40,7 +40,7 @@ spent file last = Answered Spent (spent_at (id_of file.candidates last))
 abbrev pub standing : Content → List ℕ → Verdict
 standing file order = differs (stands (order_text file.candidates order))
 
--- how the call ends if the nodes aren't enough, or an order stands
+-- how the call ends if the nodes aren't enough, or no assertion refutes an order
 abbrev pub uncovered : ℕ → Content → Option Verdict
 uncovered nodes file =
     let n : ℕ = candidate_count file in
@@ -69,7 +69,7 @@ module _ (task : PollTask) (batches : Batches) (file : Content) (entries : List 
   abbrev pub seen : List Seen
   seen = all_seen entries cards
 
-  -- how often each seen value came, of each claim, and the printed risk of that
+  -- how often each seen value occurred for each claim, and the printed risk of these counts
   abbrev pub counts : List PollCounts
   counts = map (λ value. poll_counts value seen drawn) (values_of file)
 
@@ -83,7 +83,7 @@ module _ (task : PollTask) (batches : Batches) (file : Content) (entries : List 
   abbrev pub poll_text : List ℕ
   poll_text = poll_table file cards task.draws task.limit task.gamma counts risks is_yes
 
-  -- the card of a draw has no entry: the first such draw
+  -- the first draw whose card has no entry, if there is one
   abbrev pub unseen : Option Verdict
   unseen =
       option_map (λ k. Refused task.seen (no_record_text (drawn_card task.seed k cards) k))
@@ -92,20 +92,20 @@ module _ (task : PollTask) (batches : Batches) (file : Content) (entries : List 
   abbrev pub answered : Verdict
   answered = Answered (confirmed_kind is_yes) poll_text
 
-  -- each drawn card has to be seen; then the poll prints its result
+  -- each drawn card must have been seen; then the poll prints its result
   abbrev pub Polls : Verdict → Type 0
   Polls verdict = verdict ≡ unwrap_or unseen answered
 
 -- ---- the files, the last one first
 
 module _ (task : PollTask) where
-  -- what is seen of the cards is read
+  -- the command reads what is seen of the cards
   abbrev pub after_cover : Batches → Content → Script
   after_cover batches file = Read task.seen (λ bytes.
       go_on (told (refused_seen task.seen) (seen_of batches file.candidates bytes)) (λ entries.
       Ends (Polls task batches file entries)))
 
-  -- nothing is seen before the assertions are known to cover
+  -- the seen file isn't read before the assertions are known to cover
   abbrev pub after_assertions : Batches → Content → Script
   after_assertions batches file = if_covered task.nodes file (after_cover batches file)
 

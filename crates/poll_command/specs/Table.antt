@@ -17,7 +17,7 @@ head_lines cards draws limit gamma =
 
 -- ---- a claim
 
--- how many draws have each seen value, from 0 to 2
+-- the number of draws that have each seen value, from 0 to 2
 abbrev pub seen_counts_text : PollCounts → List ℕ
 seen_counts_text counts =
     decimal counts.n0 ++ codes " " ++ decimal counts.n1 ++ codes " " ++ decimal counts.n2
@@ -27,7 +27,7 @@ claim_line assertion counts risk confirmed =
     assertion ++ codes " counts " ++ seen_counts_text counts ++ codes " risk " ++ risk_text risk
     ++ state_end confirmed
 
--- by these ids; it is confirmed if the risk is at most limit millionths
+-- the line of a claim by these ids; the claim is confirmed if the risk is at most limit millionths
 abbrev pub line_of : List Id → ℕ → Claim → PollCounts → ℕ → List ℕ
 line_of ids limit claim counts risk =
     claim_line (assertion_text ids claim.assertion) counts risk (is_risk_within limit risk)

@@ -1,4 +1,4 @@
-// Whether the assertions of a file refute each order that elects another candidate than its winner.
+// Whether the assertions of a file refute each order that elects a candidate other than its winner.
 ghost use Rattle.std.specs.Prelude.{◌≡◌, ◌≢◌, Err, Ok, Some, map, IfOk, IfErr, IfSome, is_none};
 ghost use Rattle.assertion_file.specs.Content.{candidate_count};
 ghost use Rattle.cover_checker.specs.Covers.{covered_is};
@@ -34,7 +34,7 @@ fn said(alloc: Global, file: &AssertionFile, nodes: u32) -> Result<Verdict, Cove
     covered(alloc, n, file.winner(), &list, Budget::Nodes(nodes))
 }
 
-// How the call ends if an order stands.
+// How the call ends if an order isn't refuted.
 fn unless_stands(
     alloc: Global,
     file: &AssertionFile,
@@ -55,7 +55,7 @@ fn unless_stands(
     }
 }
 
-/// How the call ends if the assertions don't refute each such order within this many nodes.
+/// How the call ends if the assertions don't refute each order that elects a candidate other than their winner within this many nodes.
 pub(crate) fn unless_covered(
     alloc: Global,
     file: &AssertionFile,

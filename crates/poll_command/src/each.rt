@@ -40,7 +40,7 @@ pub fn answer<D: Desk>(alloc: Global, desk: &mut D, task: &PollEachTask) -> Resu
     after_manifest(alloc, desk, task, &batches)
 }
 
-// The assertions are read. They have to refute each order that elects another candidate than their winner.
+// Reads the assertions. They must refute each order that elects a candidate other than their winner.
 fn after_manifest<D: Desk>(
     alloc: Global,
     desk: &mut D,
@@ -64,7 +64,7 @@ fn after_manifest<D: Desk>(
     after_cover(alloc, desk, task, batches, &file)
 }
 
-// What is seen of the cards is read.
+// Reads what is seen of the cards.
 fn after_cover<D: Desk>(
     alloc: Global,
     desk: &mut D,

@@ -34,7 +34,7 @@ fn add_numbers(text: &mut String, cards: u32, draws: u32, limit: u32) -> Result<
     writeln!(text, "cards {cards}\ndraws {draws}\nlimit {limit}")
 }
 
-// The gamma of all claims, or the word for the one that fits each.
+// The gamma of all claims, or the word for the gamma that fits each.
 fn gamma_text(alloc: Global, gamma: Option<u32>) -> Result<String, AllocError>
     ensures { IfOk result (λ text. string_bytes text ≡ gamma_text gamma) }
 {
@@ -156,9 +156,9 @@ fn add_ends(
     Ok(())
 }
 
-/// The lines of a poll with a look after each draw, over a manifest of this many cards: its contest, its winner and its numbers, with the
-/// limit in millionths and gammas in thousandths, for each assertion the counts of its seen values, the risk and the draw that confirms it,
-/// and whether all are confirmed. Every line ends with a line feed.
+/// The lines of a poll with a look after each draw, over a manifest of this many cards. They have its contest, its winner and its numbers,
+/// with the limit in millionths and gammas in thousandths; then, for each assertion, the counts of its seen values, the risk and the draw
+/// that confirms it; and then whether all are confirmed. Every line ends with a line feed.
 pub fn each_table(
     alloc: Global,
     f: &AssertionFile,

@@ -18,8 +18,8 @@ pub fn two_claims()
         codes "confirmed no\n" }
 {}
 
-/// That the first of three candidates has more votes than the second doesn't prove it wins: 2,1,3 stands. For the third candidate the
-/// suffixes 3 and 1,3 count, so one node isn't enough. If it has more votes than the third too, that proves it.
+/// If the first of three candidates has more votes than the second, this doesn't prove that it wins: nothing refutes 2,1,3. For the third
+/// candidate the suffixes 3 and 1,3 count, so one node isn't enough. If it also has more votes than the third, that proves it.
 pub fn three_candidates()
     ensures stands { uncovered 2 (examples.file_of (1 ∷ [])) ≡
         Some (Answered Differs (codes "no: order 2,1,3 stands\n")) }

@@ -1,5 +1,5 @@
-//! The command that polls: whether what is seen of drawn cards confirms the assertions of a file, if no card is matched with its record.
-//! It uses no search, and reads no ballots.
+//! The command that polls: it reports whether what is seen of drawn cards confirms the assertions of a file, if no card is matched with its
+//! record. It uses no search, and reads no ballots.
 #![tactic(auto)]
 
 mod cover;

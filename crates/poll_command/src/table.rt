@@ -29,7 +29,7 @@ fn add_head(
     )
 }
 
-// Adds how many draws have each seen value, from 0 to 2, between the assertion and its risk.
+// Adds the number of draws that have each seen value, from 0 to 2, between the assertion and its risk.
 fn add_counts(text: &mut String, assertion: &str, c: &PollCounts) -> Result<(), AllocError>
     ensures { IfOk result (λ _. string_bytes text.new ≡ string_bytes text.old
         ++ (assertion.now ++ codes " counts " ++ seen_counts_text c.now ++ codes " risk ")) }
@@ -120,8 +120,9 @@ pub(crate) fn add_last(text: &mut String, confirmed: bool) -> Result<(), AllocEr
     writeln!(text, "confirmed {answer}")
 }
 
-/// The lines of a poll over a manifest of this many cards: its numbers, with gamma in thousandths and the limit in millionths, for each
-/// assertion the counts of its seen values, the risk and whether it is confirmed, and whether all are. Every line ends with a line feed.
+/// The lines of a poll over a manifest of this many cards. They have its numbers, with gamma in thousandths and the limit in millionths;
+/// then, for each assertion, the counts of its seen values, the risk and whether it is confirmed; and then whether all are confirmed. Every
+/// line ends with a line feed.
 pub fn poll_table(
     alloc: Global,
     f: &AssertionFile,

@@ -1,4 +1,4 @@
--- Where a claim isn't true of the actual rankings, a poll that is looked at after each draw confirms it on few sequences.
+-- If a claim isn't true of the actual rankings, a poll that is looked at after each draw confirms it on few sequences.
 use Rattle.std.proofs.Common.{◌≡◌, ℕ, ◌+◌, ◌*◌, ◌^◌, ◌<◌, ◌≤◌, Bool, true, false, cond, List, [], ◌∷◌, map, length, take, get_or, sum_by, count_by, All, Contains, Option, None, Some, is_some, IsTrue, sym, ap, subst, ◌∙◌, arith}
 use Rattle.std.specs.List.{list_all, range_with_len}
 use Rattle.std.proofs.lemmas.List.{length-map, take-map, take-take}
@@ -95,7 +95,7 @@ each_limit candidates winner limit n assertions claims actual drawn cover same t
         let at = each k claim.value (omega (arith, length-map claims (λ claim. claim.value), below)) in
         subst IsAssorter (Rattle.std.proofs.lemmas.List.get_or-map (λ claim. claim.value) claims k claim claim.value below) at
 
--- the poll is the same by what is seen of the drawn cards alone
+-- the poll is the same if it uses only what is seen of the drawn cards
 module _ (entries : List Entry) (drawn : List ℕ) (cards : ℕ) (some : All (λ card. 1 ≤ card) drawn) (within : All (λ card. card ≤ cards) drawn) where
   same-each : (limit : ℕ) (claims : List Polled) →
       is_each_confirmed limit claims (all_seen entries cards) drawn ≡ is_each_confirmed limit claims (seen_of_all (seen_of_drawn entries drawn) cards) drawn

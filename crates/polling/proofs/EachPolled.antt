@@ -1,4 +1,4 @@
--- The ends of all claims, by all draws and by the first of them.
+-- The ends of all claims, by all draws and by the first draws only.
 use Rattle.std.proofs.Common.{◌≡◌, ℕ, ◌<◌, ◌≤◌, Bool, true, false, ◌&&◌, List, [], ◌∷◌, length, map, take, Option, None, Some, is_some, refl, sym, ap, ◌∙◌, arith}
 use Rattle.std.specs.List.{list_all}
 use Rattle.std.proofs.lemmas.Bool.{and_parts}
@@ -55,7 +55,7 @@ module _ (limit : ℕ) (seen : List Seen) (drawn : List ℕ) where
   long : (claim : Polled) → length (values_of seen drawn claim) ≡ length drawn
   long claim = length-map drawn (λ card. seen_value claim.value (seen_at seen card))
 
-  -- a claim takes no more draws than there are
+  -- a claim takes at most as many draws as there are
   takes-within : (claim : Polled) → draws_of limit claim.gamma (values_of seen drawn claim) ≤ length drawn
   takes-within claim = by (confirmed_at limit claim.gamma (values_of seen drawn claim)) refl where
     by : (o : Option ℕ) → confirmed_at limit claim.gamma (values_of seen drawn claim) ≡ o →
@@ -85,7 +85,7 @@ module _ (limit : ℕ) (seen : List Seen) (drawn : List ℕ) where
         ap (end_of limit claim.gamma) (first-values claim)
         ∙ ended-more limit claim.gamma (values_of seen drawn claim) m (among claim) (confirms-first claim some)
 
-    -- where they confirm each claim, its end is the same by all draws, which ask of no more of them
+    -- if they confirm each claim, its end is the same by all draws, which ask for no more of them
     pub ends-first : (claims : List Polled) → is_each_confirmed limit claims seen (take m drawn) ≡ true →
         ends_of limit claims seen (take m drawn) ≡ ends_of limit claims seen drawn
     ends-first [] each = refl
@@ -103,7 +103,7 @@ module _ (limit : ℕ) (seen : List Seen) (drawn : List ℕ) where
         let rest = asked-first claims more in
         omega (arith, first, rest)
 
-    -- where they don't, more of them are asked
+    -- if they don't, more of them are asked for
     pub asked-more : m < length drawn → (claims : List Polled) → is_each_confirmed limit claims seen (take m drawn) ≡ false →
         m < asked limit claims seen drawn
     asked-more fewer [] each = absurd (cc each)

@@ -1,4 +1,4 @@
--- How the poll of a claim ends, by all seen values and by the first of them.
+-- How the poll of a claim ends, by all seen values and by the first values only.
 use Rattle.std.proofs.Common.{◌≡◌, ℕ, suc, ◌+◌, ◌-◌, ◌<◌, ◌≤◌, false, nat_le, List, [], ◌∷◌, ◌++◌, get_or, length, map, take, Option, None, Some, find, is_some, IsTrue, refl, sym, ap, ◌∙◌, arith, inl, inr}
 use Rattle.std.specs.Prelude.{unwrap_or}
 use Rattle.std.specs.List.{range_with_len}
@@ -21,7 +21,7 @@ module _ (limit gamma : ℕ) (values : List ℕ) where
   abbrev as_ended : PollCounts → ℕ → Option ℕ → ClaimEnd
   as_ended counts risk confirmed = record { gamma = gamma; counts = counts; risk = risk; confirmed = confirmed }
 
-  -- a claim that a draw confirms ends there, and another one with the last draw
+  -- a claim that a draw confirms ends there, and any other claim ends with the last draw
   pub ended : (counts : PollCounts) (risk : ℕ) (confirmed : Option ℕ) → confirmed_at limit gamma values ≡ confirmed →
       counts ≡ counted (take (unwrap_or confirmed (length values)) values) →
       risk ≡ risk_as_drawn 1 1 gamma (take (unwrap_or confirmed (length values)) values) →
@@ -38,7 +38,7 @@ module _ (limit gamma : ℕ) (values : List ℕ) where
       (from, omega (arith, to))
 
   module _ (m : ℕ) (few : m ≤ length values) where
-    -- the search by the first values alone
+    -- the search by the first values only
     first-search : confirmed_at limit gamma (take m values) ≡ find (λ k. is_within_as_drawn 1 1 gamma limit (take k values)) (range_with_len 1 m)
     first-search =
         let long : length (take m values) ≡ m = length-take m values ∙ (omega (arith, few)) in
@@ -90,7 +90,7 @@ module _ (limit gamma : ℕ) (values : List ℕ) where
             absurd (cc (sym none ∙ ap is_some found))
       ]
 
--- ---- one draw more
+-- ---- one more draw
 
 pub values-more : (value : List ℕ → ℕ) (drawn : List SeenCard) (i : ℕ) (one : SeenCard) (s : ℕ) → i < length drawn → one ≡ get_or drawn i one →
     s ≡ polled value one → take i (map (polled value) drawn) ++ s ∷ [] ≡ take (i + 1) (map (polled value) drawn)

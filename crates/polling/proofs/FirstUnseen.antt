@@ -1,4 +1,4 @@
--- Where the card of a draw has no record: the draws before it, which may confirm each claim.
+-- The draws before the first draw whose card has no record; they may confirm each claim.
 use Rattle.std.proofs.Common.{◌≡◌, ℕ, ◌-◌, ◌≤◌, Bool, true, false, not, is_some, List, length, take, None, Some, sym, ap, ◌∙◌, arith}
 use Rattle.std.specs.List.{range_with_len}
 use Rattle.std.proofs.lemmas.List.FromFn.{length-map-range_with_len, take-map-range_with_len}

@@ -1,4 +1,4 @@
--- A poll that confirms by the draws of a seed is among those that the limit counts: it looks at the drawn cards alone.
+-- A poll that confirms by the draws of a seed is among those that the limit counts, because it looks only at the drawn cards.
 use Rattle.std.proofs.Common.{◌≡◌, ℕ, ◌-◌, ◌≤◌, Bool, true, false, if◌then◌else◌, List, [], ◌∷◌, map, length, take, get_or, All, Option, None, IfSome, IsTrue, refl, sym, ap, subst, ◌∙◌, arith}
 use Rattle.std.proofs.Math.Path.{fun_ext}
 use Rattle.std.specs.List.{list_all, range_with_len}
@@ -34,7 +34,7 @@ map-same f g [] same = refl
 map-same f g (x ∷ xs) same = let first = same x here in let rest = map-same f g xs (λ y m. same y (there m)) in λ i. first i ∷ rest i
 
 module _ (entries : List Entry) (drawn : List ℕ) where
-  -- what is seen of the drawn cards alone
+  -- what is seen of the drawn cards only
   abbrev pub seen_of_drawn : ℕ → Option Seen
   seen_of_drawn card = if is_in drawn card then seen_in entries card else None
 
@@ -56,7 +56,7 @@ module _ (entries : List Entry) (drawn : List ℕ) where
         ∙ ap (λ b. unwrap_or (if b then seen_in entries card else None) Missing) (sym (in-from_member m))
         ∙ sym (kept seen_of_drawn cards card first last)
 
-    -- so the poll is the same by what is seen of the drawn cards alone
+    -- so the poll is the same if it uses only what is seen of the drawn cards
     same-poll : (limit gamma : ℕ) (values : List (List ℕ → ℕ)) →
         is_confirmed limit gamma values (all_seen entries cards) drawn ≡ is_confirmed limit gamma values (seen_of_all seen_of_drawn cards) drawn
     same-poll limit gamma values =

@@ -1,4 +1,4 @@
--- Where a claim isn't true of the actual rankings, a poll confirms it on few sequences.
+-- If a claim isn't true of the actual rankings, a poll confirms it on few sequences.
 use Rattle.std.proofs.Common.{◌≡◌, ℕ, suc, ◌+◌, ◌-◌, ◌*◌, ◌^◌, ◌<◌, ◌≤◌, Bool, true, cond, List, [], ◌∷◌, map, length, take, get_or, sum_by, count_by, All, sym, ap, ◌∙◌, arith}
 use Rattle.std.specs.List.{range_with_len}
 use Rattle.std.proofs.lemmas.List.{get_or-map, length-map, same_lists, take-map}
@@ -45,7 +45,7 @@ pub poll_is_comparison : PollIsComparison
 poll_is_comparison gamma value seen drawn is = ap (printed_risk 1 1 gamma) (as-discrepancies (values_drawn value is seen drawn) (at-most-two value is seen drawn))
 
 module _ (value : List ℕ → ℕ) (is : IsAssorter value) (actual : List (List ℕ)) where
-  -- what a card counts as, where all are found
+  -- what a card counts as, if all cards are found
   abbrev pub found_value : ℕ → ℕ
   found_value card = seen_value value (seen_at (all_found actual) card)
 

@@ -1,4 +1,4 @@
--- Searches through numbers from one on, and through the first of them.
+-- Searches through numbers from a given one on, and through only the first of these numbers.
 use Rattle.std.proofs.Common.{◌≡◌, ℕ, zero, suc, ◌+◌, ◌-◌, ◌<◌, ◌≤◌, Bool, ◌∷◌, ◌++◌, Option, None, Some, find, refl, sym, ap, ◌∙◌, arith}
 use Rattle.std.specs.List.{range_with_len}
 use Rattle.std.specs.Option.{option_or}
@@ -44,7 +44,7 @@ module _ (p : ℕ → Bool) (m all : ℕ) (few : m ≤ all) where
         let (from, to) = from_range r 1 m (from_find p r (range_with_len 1 m) first).0 in
         absurd (omega (arith, to, same, behind))
 
-  -- where nothing is found, nothing is found among the first
+  -- if nothing is found, nothing is found among the first
   pub none-first : find p (range_with_len 1 all) ≡ None → find p (range_with_len 1 m) ≡ None
   none-first none = by (find p (range_with_len 1 m)) refl where
     by : (o : Option ℕ) → find p (range_with_len 1 m) ≡ o → find p (range_with_len 1 m) ≡ None

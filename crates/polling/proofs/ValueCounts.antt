@@ -1,4 +1,4 @@
--- The counts of values, one after the other, and as those of discrepancies.
+-- The counts of values, one value at a time, and as counts of discrepancies.
 use Rattle.std.proofs.Common.{◌≡◌, ◌∙◌, ℕ, ◌+◌, ◌==◌, ◌<◌, ◌≤◌, Bool, true, false, cond, List, [], ◌∷◌, ◌++◌, All, count_by, get_or, length, map, take, refl, sym, ap, eqb-true, arith}
 use Rattle.std.proofs.lemmas.List.{get_or-map, length-map, map-append, take_more}
 use Rattle.std.proofs.lemmas.List.Elements.{All-head, All-tail}
@@ -18,7 +18,7 @@ polled-more value drawn i one below is =
     sym (map-append (polled value) (take i drawn) (one ∷ []))
     ∙ ap (map (polled value)) (ap (λ x. take i drawn ++ x ∷ []) is ∙ sym (take_more drawn i one below))
 
--- ---- values of at most two are as many discrepancies
+-- ---- values of at most two, counted the same way as discrepancies
 other : (s k : ℕ) → s < k → ◌≡◌ {A = ℕ} (cond (s == k) 1 0) 0
 other s k less = go (s == k) refl where
   go : (b : Bool) → (s == k) ≡ b → ◌≡◌ {A = ℕ} (cond b 1 0) 0
@@ -44,7 +44,7 @@ as-discrepancies ss few =
       n4 = n4 i;
     }
 
--- ---- one element more of a list of answers
+-- ---- one more element in a list of answers
 pub one-more : {X Y : Type 0} (f : X → Y) (xs : List X) (all : List Y) (j : ℕ) (d : X) (y : Y) → j < length xs → all ≡ take j (map f xs) →
     y ≡ f (get_or xs j d) → all ++ y ∷ [] ≡ take (j + 1) (map f xs)
 one-more f xs all j d y below so-far is =

@@ -1,6 +1,6 @@
--- A poll that is looked at after each draw: of each claim the first draw after which its printed risk is within the limit.
+-- A poll that is looked at after each draw: for each claim, the first draw after which its printed risk is within the limit.
 --
--- Each claim has a gamma of its own, which its file and the terms of the poll fix before a card is drawn.
+-- Each claim has its own gamma, which its file and the terms of the poll fix before a card is drawn.
 use Rattle.std.specs.Prelude.{ℕ, ◌+◌, ◌-◌, ◌*◌, ◌/◌, ◌≤◌, min, max, Bool, List, [], ◌∷◌, length, map, take, Option, is_some, unwrap_or}
 use Rattle.std.specs.List.{list_all}
 use Rattle.assertions.specs.Assorter.{assorter_value}
@@ -34,7 +34,7 @@ abbrev pub best_gamma : ℕ → ℕ → ℕ
 best_gamma cards margin =
     min GREATEST_EACH_GAMMA (max 1 ((1000 * (cards - margin) + margin) / (2 * margin)))
 
--- this one, or if there is none the one that fits the margin of the claim
+-- the given gamma, or, if there is none, the one that fits the margin of the claim
 abbrev pub gamma_of : Option ℕ → ℕ → Claim → ℕ
 gamma_of gamma cards claim = unwrap_or gamma (best_gamma cards claim.margin)
 
@@ -53,7 +53,7 @@ module _ (limit gamma : ℕ) (values : List ℕ) where
   abbrev pub confirmed_at : Option ℕ
   confirmed_at = first_within 1 1 gamma limit values
 
-  -- how many draws it takes: those up to that one, or all if there is none
+  -- the number of draws it takes: those up to that draw, or all if there is none
   abbrev pub draws_of : ℕ
   draws_of = unwrap_or confirmed_at (length values)
 
@@ -75,7 +75,7 @@ abbrev pub most_of : List ℕ → ℕ
 most_of [] = 0
 most_of (n ∷ ns) = max n (most_of ns)
 
--- what is seen of the drawn cards counts so for a claim
+-- what the cards seen for these draws count as for a claim
 abbrev pub values_of : List Seen → List ℕ → Polled → List ℕ
 values_of seen drawn claim = map (λ card. seen_value claim.value (seen_at seen card)) drawn
 
@@ -84,13 +84,13 @@ module _ (limit : ℕ) (claims : List Polled) (seen : List Seen) (drawn : List �
   ends_of =
       map (λ claim. end_of limit claim.gamma (values_of seen drawn claim)) claims
 
-  -- a draw confirms each claim
+  -- every claim is confirmed by some draw
   abbrev pub is_each_confirmed : Bool
   is_each_confirmed =
       list_all (λ claim. is_some (confirmed_at limit claim.gamma (values_of seen drawn claim)))
       claims
 
-  -- how many draws are needed: those up to the one that confirms the last claim, or all if some claim isn't confirmed
+  -- the number of draws needed: those up to the one that confirms the last claim, or all if some claim isn't confirmed
   abbrev pub asked : ℕ
   asked =
       most_of (map (λ claim. draws_of limit claim.gamma (values_of seen drawn claim)) claims)

@@ -1,9 +1,9 @@
 -- The risk limit of a poll that is looked at after each draw. `EachLimit`, the last record, is the promise; the records before it are the
--- premises. They are those of `PollLimit`, with a gamma for each claim. When such a poll confirms (`is_each_confirmed`) is defined in
+-- premises. They are those of `PollLimit`, with a gamma for each claim. When a poll like this confirms (`is_each_confirmed`) is defined in
 -- `polling/specs/Each.antt`.
 --
--- The candidates and the winner are those of the assertions, and the gammas are given first: so in a poll they are fixed and published
--- before the seed is known. A gamma may follow from the margin that the assertion file says. It may not follow from what is seen.
+-- The candidates and the winner are those of the assertions, and the gammas are given first. So in a poll they are fixed and published
+-- before the seed is known. A gamma may follow from the margin that the assertion file states. It may not follow from what is seen.
 use Rattle.std.specs.Prelude.{◌≡◌, ◌≢◌, ℕ, ◌*◌, ◌^◌, ◌<◌, ◌≤◌, List, length, map, take, sum_by, All, AllPairs, Contains, IsTrue}
 use Rattle.assertions.specs.declared.assertion.Assertion.{Assertion}
 use Rattle.assertions.specs.Assorter.{assorter_value}
@@ -22,7 +22,7 @@ use Rattle.polling.specs.Each.{Polled, is_each_confirmed}
 -- ---- what is counted
 
 module _ (limit : ℕ) (claims : List Polled) (actual : List (List ℕ)) where
-  -- the poll can confirm each claim within some of these draws: some cards may be missing, and the others are read as they are
+  -- the poll can confirm each claim within some number of these draws; some cards may be missing, and the others are read as they are
   pub record MayBeEachConfirmed (draws : List ℕ) : Type 0 where
     pub seen : List Seen
     pub readings : AreReadings actual seen
@@ -30,7 +30,7 @@ module _ (limit : ℕ) (claims : List Polled) (actual : List (List ℕ)) where
     pub few : so_far ≤ length draws
     pub confirmed : IsTrue (is_each_confirmed limit claims seen (take so_far draws))
 
-  -- it can on each of these sequences of n cards, no two of which are the same
+  -- it can do so on each of these sequences of n cards, no two of which are the same
   pub record AreEachConfirmed (n : ℕ) (sequences : List (List ℕ)) : Type 0 where
     pub drawn : All (IsSequence (length actual) n) sequences
     pub differ : AllPairs ◌≢◌ sequences
@@ -43,7 +43,7 @@ pub record AreEachTerms (limit : ℕ) (claims : List Polled) : Type 0 where
 
 -- ---- what is promised
 
--- for claims with values from 0 to 2, of which one isn't true of the actual rankings: its values have a mean of at most 1
+-- the promise for claims with values from 0 to 2, one of which isn't true of the actual rankings: the mean of its values is at most 1
 abbrev pub EachValuesLimit : Type 0
 EachValuesLimit =
     (limit n : ℕ) (claims : List Polled) (actual sequences : List (List ℕ)) (claim : Polled) →
@@ -52,7 +52,7 @@ EachValuesLimit =
     AreEachConfirmed limit claims actual n sequences →
     length sequences * millionths_in_one ≤ limit * length actual ^ n
 
--- for assertions that prove a winner, if the actual rankings may elect another candidate
+-- the promise for assertions that prove a winner, if the actual rankings may elect another candidate
 abbrev pub EachLimit : Type 0
 EachLimit =
     (candidates winner limit n : ℕ) (assertions : List Assertion) (claims : List Polled)
@@ -65,8 +65,8 @@ EachLimit =
 
 -- ---- which polls it counts
 
--- a poll that confirms each claim by the draws of a seed is counted, if each drawn card was read as it was; also among longer sequences,
--- however many draws the seed then gives
+-- a poll that confirms each claim by the draws of a seed is counted, if each drawn card was read as it was; it is also counted among longer
+-- sequences, however many draws the seed then gives
 abbrev pub EachIsCounted : Type 0
 EachIsCounted =
     (limit draws most : ℕ) (seed : List ℕ) (claims : List Polled) (entries : List Entry)

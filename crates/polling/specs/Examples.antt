@@ -9,11 +9,11 @@ use Rattle.assorters.specs.declared.seen.Seen.TheVariants.{Found, Missing}
 abbrev pub one_found : List Seen
 one_found = Found (0 ∷ []) ∷ []
 
--- that can't be found
+-- a card that can't be found
 abbrev pub one_missing : List Seen
 one_missing = Missing ∷ []
 
--- it is drawn so often
+-- the card is drawn n times
 abbrev pub draws_of_one : ℕ → List ℕ
 draws_of_one n = replicate n 1
 

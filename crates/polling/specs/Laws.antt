@@ -1,4 +1,4 @@
--- Laws of a poll apart from its limit: which polls the limit counts, and that a poll is a comparison with another factor.
+-- The laws of a poll other than its limit: which polls the limit counts, and that a poll is a comparison with another factor.
 use Rattle.std.specs.Prelude.{◌≡◌, ℕ, ◌+◌, ◌*◌, ◌≤◌, List, map, length, IsTrue}
 use Rattle.km_risk.specs.Counts.{counts_of}
 use Rattle.km_risk.specs.Factor.{numerator, denominator}
@@ -14,8 +14,8 @@ use Rattle.polling.specs.PollLimit.{MayBeConfirmed}
 
 -- ---- what is counted
 
--- a poll that confirms claims by the draws of a seed is counted, if each drawn card was read as it was; also among longer sequences,
--- however many draws the seed then gives
+-- a poll that confirms claims by the draws of a seed is counted, if each drawn card was read as it was; it is also counted among longer
+-- sequences, however many draws the seed then gives
 abbrev pub PolledIsCounted : Type 0
 PolledIsCounted =
     (limit gamma draws most : ℕ) (seed : List ℕ) (values : List (List ℕ → ℕ))
@@ -37,7 +37,7 @@ PollIsComparison =
     ≡ printed_risk 1 1 gamma
     (counts_of (map (λ card. seen_value value (seen_at seen card)) drawn))
 
--- there the factor of a draw is (500 + gamma) / (500 * s + gamma)
+-- in that comparison, the factor of a draw is (500 + gamma) / (500 * s + gamma)
 pub record FactorLaw (gamma s : ℕ) : Type 0 where
   pub over : numerator 1 1 gamma ≡ 500 + gamma
   pub under : denominator 1 1 gamma s ≡ 500 * s + gamma

@@ -1,7 +1,7 @@
--- A poll of drawn cards: how often each seen value of an assertion's assorter came, and the risk of that.
+-- A poll of drawn cards: how often each value of an assertion's assorter was seen, and the risk that follows from these counts.
 --
--- A draw with a seen value s has the factor (1/2 + g) / (s/2 + g), where g is gamma / 1000: that of a comparison with such a discrepancy,
--- at one card and a margin of one vote.
+-- A draw with a seen value s has the factor (1/2 + g) / (s/2 + g), where g is gamma / 1000. This is the factor of a comparison with
+-- discrepancy s, at one card and a margin of one vote.
 use Rattle.std.specs.Prelude.{◌≡◌, ℕ, ◌*◌, ◌==◌, Bool, nat_le, List, map, count_by, Some}
 use Rattle.std.specs.List.{list_all}
 use Rattle.km_risk.specs.declared.draws.Counts.{Counts}
@@ -22,7 +22,7 @@ use Rattle.polling.specs.declared.fault.PollFault.TheVariants.{NoRecord, Memory}
 
 -- ---- the counts
 
--- how many of the values are 0, 1 and 2
+-- the numbers of values that are 0, 1 and 2
 abbrev pub counted : List ℕ → PollCounts
 counted values = record {
   n0 = count_by (λ s. s == 0) values;
@@ -33,22 +33,22 @@ counted values = record {
 abbrev pub polled : (List ℕ → ℕ) → SeenCard → ℕ
 polled value drawn = seen_value value drawn.seen
 
--- over these drawn cards
+-- the counts over these drawn cards
 abbrev pub poll_counts : (List ℕ → ℕ) → List Seen → List ℕ → PollCounts
 poll_counts value seen drawn = counted (map (λ card. seen_value value (seen_at seen card)) drawn)
 
 -- ---- the risk
 
--- as discrepancies of a comparison
+-- the counts as discrepancies of a comparison
 abbrev pub as_counts : PollCounts → Counts
 as_counts counts =
     record { n0 = counts.n0; n1 = counts.n1; n2 = counts.n2; n3 = 0; n4 = 0 }
 
--- printed, at gamma thousandths
+-- the printed risk, at gamma thousandths
 abbrev pub poll_risk : ℕ → PollCounts → ℕ
 poll_risk gamma counts = printed_risk 1 1 gamma (as_counts counts)
 
--- at most limit millionths
+-- the risk is at most limit millionths
 abbrev pub is_risk_within : ℕ → ℕ → Bool
 is_risk_within limit risk = nat_le risk (limit * MILLIONTH)
 
@@ -59,13 +59,13 @@ is_confirmed limit gamma values seen drawn =
 
 -- ---- why there is none
 
--- what a draw without a record is to a poll
+-- the fault of a poll that has a draw without a record
 abbrev pub as_poll_fault : Unseen → PollFault
 as_poll_fault (NoRecordOf card k) = NoRecord card k
 as_poll_fault MemoryOf = Memory
 
 module _ (seed : List ℕ) (cards : ℕ) (entries : List Entry) (draws : ℕ) where
-  -- it names the first draw whose card has no record; memory may always be short
+  -- the fault names the first draw whose card has no record; memory may run short at any time
   abbrev pub IsPollFault : PollFault → Type 0
   IsPollFault (NoRecord card k) =
       (unseen_draw seed cards entries draws ≡ Some k) × (card ≡ drawn_card seed k cards)

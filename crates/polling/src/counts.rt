@@ -1,4 +1,4 @@
-// How many draws have each seen value, and the risk of them.
+// The number of draws with each seen value, and the risk of these draws.
 ghost use Rattle.std.specs.Prelude.{◌≡◌, ◌≤◌, ◌<◌, ◌^◌, ◌+◌, ◌++◌, ◌∷◌, [], ℕ, List, map, length};
 ghost use Rattle.irv_base.specs.declared.limits.TheConstants.{GREATEST_GAMMA, MOST_DRAWS};
 ghost use Rattle.assertions.specs.Assorter.{assorter_value};
@@ -13,7 +13,7 @@ use assorters::Seen;
 use audit_session::SeenCard;
 use km_risk::{Counts, risk};
 
-/// How many draws have each seen value of an assertion's assorter, from 0 to 2.
+/// The number of draws with each seen value of an assertion's assorter, from 0 to 2.
 #[derive(Clone, Copy, Debug, Default, PartialEq, Eq)]
 pub struct PollCounts {
     /// Draws that count for the loser, and cards that can't be found.
@@ -24,7 +24,7 @@ pub struct PollCounts {
     pub n2: u32,
 }
 
-// The comparison's draws with these factors: those of one card and a margin of one vote.
+// The draws of the comparison that have these factors, at one card and a margin of one vote.
 fn as_counts(c: &PollCounts) -> Counts
     ensures { result ≡ as_counts c.now }
 {
@@ -51,7 +51,7 @@ pub fn poll_risk(c: &PollCounts, gamma: u32) -> u64
     risk(&as_counts(c), 1, 1, gamma)
 }
 
-/// What is seen of a card counts so for the assertion.
+/// What the card, as it was seen, counts as for the assertion.
 pub(crate) fn seen_value(assertion: &Assertion, seen: &Seen) -> u8
     ensures value { result ≡ seen_value (assorter_value assertion.now) seen.now }
     ensures most { result ≤ 2 }
@@ -62,7 +62,7 @@ pub(crate) fn seen_value(assertion: &Assertion, seen: &Seen) -> u8
     }
 }
 
-/// One more draw with this value.
+/// The counts after one more draw with this value.
 pub(crate) fn with_value(counts: PollCounts, s: u8) -> PollCounts
     requires few { counts.n0 + counts.n1 + counts.n2 < 2 ^ 31 }
     requires value { s ≤ 2 }

@@ -21,7 +21,7 @@ use manifest::Manifest;
 use sampler::Seed;
 use std::alloc::Global;
 
-/// How the poll of a claim ends: after the first draw at which its printed risk is within the limit, or after all draws.
+/// How the poll of a claim ends: after the first draw that brings its printed risk within the limit, or after all draws.
 #[derive(Clone, Copy, Debug, PartialEq, Eq)]
 pub struct ClaimEnd {
     /// The gamma of the claim, in thousandths.
@@ -30,11 +30,11 @@ pub struct ClaimEnd {
     pub counts: PollCounts,
     /// The printed risk after them, in units of 10^-18.
     pub risk: u128,
-    /// The draw that confirms the claim, counted from 1, if one does.
+    /// The draw that confirms the claim, counted from 1, if there is one.
     pub confirmed: Option<u32>,
 }
 
-/// How a poll ends that is looked at after each draw.
+/// How a poll that is looked at after each draw ends.
 #[derive(Drop)]
 pub struct EachEnd {
     /// The end of each claim.
@@ -88,7 +88,7 @@ fn claim_end(assertion: &Assertion, drawn: &[SeenCard], limit: u32, gamma: u32) 
     }
 }
 
-// The gamma of a claim: this one, or if there is none the one that fits its margin.
+// The gamma of a claim: the given one, or, if there is none, the one that fits its margin.
 fn gamma_of(gamma: Option<u32>, cards: u32, claim: &Claim) -> u32
     requires margin { 1 ≤ claim.now.margin }
     requires few { cards ≤ MOST_CARDS }
@@ -177,12 +177,12 @@ fn poll_of(
     Ok(EachEnd { claims, confirmed })
 }
 
-/// Polls the cards of a manifest, with a look after each of this many draws with the seed. For each assertion of the file it gives the
-/// first draw after which its printed risk is within the limit, with the counts of its seen values and the risk there. Each assertion has
-/// this gamma, or if there is none the one that fits the margin that the file says.
+/// Polls the cards of a manifest, with a look after each of this many draws with the seed. For each assertion of the file, the result has
+/// the first draw after which the printed risk is within the limit, the counts of the seen values up to there, and the risk there. Each
+/// assertion has the given gamma, or, if there is none, the one that fits the margin that the file states.
 ///
-/// It is refused exactly if the card of a draw has no record among the seen, up to the draw that confirms the last assertion: at the
-/// first such draw.
+/// The poll is refused exactly if, up to the draw that confirms the last assertion, the card of some draw has no record among the seen. It is
+/// refused at the first draw like this.
 pub fn poll_each(
     alloc: Global,
     m: &Manifest,
@@ -217,7 +217,7 @@ pub fn poll_each(
     match drawn_seen(alloc, seed, cards, seen, draws) {
         Ok(drawn) => Ok(poll_of(alloc, f, cards, &drawn, limit, gamma)?),
         Err(Unseen::NoRecord { card, k }) => {
-            // The draws before it may confirm each claim. Each of them has a record, so that only memory can be wanting.
+            // The draws before it may confirm each claim. Each of these draws has a record, so only memory can run short.
             let Ok(before) = drawn_seen(alloc, seed, cards, seen, k - 1) else {
                 return Err(PollFault::Memory);
             };

@@ -20,15 +20,15 @@ use manifest::Manifest;
 use sampler::Seed;
 use std::alloc::Global;
 
-/// How a poll ends: for each assertion the counts of its seen values and the printed risk, in units of 10^-18, and
+/// How a poll ends: for each assertion, the counts of its seen values and the printed risk, in units of 10^-18, and
 /// whether each risk is within the limit.
 #[derive(Drop)]
 pub struct PollEnd {
     /// The counts of each assertion, over all draws.
     pub counts: Vec<PollCounts>,
-    /// The printed risk of each.
+    /// The printed risk of each assertion.
     pub risks: Vec<u64>,
-    /// Whether each of them is within the limit.
+    /// Whether each risk is within the limit.
     pub confirmed: bool,
 }
 
@@ -51,7 +51,7 @@ fn all_counts(
     Ok(all)
 }
 
-// The risk of each.
+// The risk of each claim.
 fn risks_of(alloc: Global, counts: &[PollCounts], gamma: u32) -> Result<Vec<u64>, Memory>
     requires draws { All (λ c. c.n0 + c.n1 + c.n2 ≤ MOST_DRAWS) counts.now }
     requires some_gamma { 1 ≤ gamma }
@@ -72,10 +72,10 @@ fn are_confirmed(risks: &[u64], limit: u32) -> bool
     risks.iter().all(|risk| is_confirmed(*risk, limit))
 }
 
-/// Polls the cards of a manifest: this many draws with the seed, for each of which it is known what people saw. It gives how often each
-/// seen value came for each assertion of the file, and the risk; the margins of the file aren't used.
+/// Polls the cards of a manifest: this many draws with the seed, given what people saw of each drawn card. The result has the number of
+/// draws with each seen value for each assertion of the file, and the risk. The margins of the file aren't used.
 ///
-/// It is refused exactly if the card of a draw has no record among the seen: at the first such draw.
+/// The poll is refused exactly if the card of some draw has no record among the seen. It is refused at the first draw like this.
 pub fn poll(
     alloc: Global,
     m: &Manifest,

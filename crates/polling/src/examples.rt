@@ -1,5 +1,5 @@
-//! Worked examples: the polls of one card that is drawn again and again, and of two cards that are in truth a tie, computed by the
-//! checker.
+//! Worked examples, computed by the checker: a poll of one card that is drawn again and again, and a poll of two cards that are in truth
+//! a tie.
 ghost use Rattle.std.specs.Prelude.{◌≡◌, false, ◌∷◌, [], count_by, map, IsTrue};
 ghost use Rattle.std.specs.List.{range_with_len};
 ghost use Rattle.assertions.specs.Assorter.{assorter_value};
@@ -13,7 +13,7 @@ ghost use Rattle.polling.specs.PollLimit.{AreConfirmed};
 ghost use Rattle.polling.specs.Polls.{is_confirmed, poll_counts, poll_risk};
 ghost use Rattle.polling.specs.Examples as examples;
 
-/// A card that is found to be for the winner: at a limit of 0.05 and gamma 0.1 five draws are enough, and four aren't.
+/// A card that is found to be for the winner: at a limit of 0.05 and a gamma of 0.1, five draws are enough, and four aren't.
 pub fn one_card()
     ensures counts { poll_counts lead examples.one_found (examples.draws_of_one 4)
         ≡ record { n0 = 0; n1 = 0; n2 = 4 } }
@@ -27,7 +27,7 @@ pub fn one_card()
         (examples.draws_of_one 4) ≡ false }
 {}
 
-/// A card that can't be found counts for the loser: the factor of the draw is 6, and the risk is one.
+/// A card that can't be found counts for the loser: the factor of the draw is 6, and the risk is 1.
 pub fn missing_card()
     ensures counts { poll_counts lead examples.one_missing (examples.draws_of_one 1)
         ≡ record { n0 = 1; n1 = 0; n2 = 0 } }
@@ -35,8 +35,9 @@ pub fn missing_card()
         ≡ 1000000000000000000 }
 {}
 
-/// All that the limit of a poll asks can be met. Of two cards one is for candidate 0 and one for candidate 1: at a limit of 0.7 a draw of the
-/// first is enough, and a draw of the second isn't. Of the two sequences of one card one is confirmed, and 1 of 2 is at most 0.7.
+/// All premises of the limit of a poll can be met. One of two cards is for candidate 0, and the other is for candidate 1. At a limit of 0.7
+/// a draw of the first is enough, and a draw of the second isn't. So one of the two sequences of one card is confirmed, and 1 of 2 is at
+/// most 0.7.
 pub fn wrong_winner()
     ensures cover { Cover 2 0 examples.leads }
     ensures terms { AreTerms 700000 500 }

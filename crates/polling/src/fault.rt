@@ -1,4 +1,4 @@
-// Why a poll has no end.
+// Why a poll has no result.
 ghost use Rattle.std.specs.Prelude.{◌≡◌};
 ghost use Rattle.polling.specs.Polls.{as_poll_fault};
 ghost use Rattle.polling.specs.declared.fault.PollFault.TheVariants.{Memory as WantOfMemory};
@@ -9,12 +9,12 @@ use std::alloc::AllocFailed;
 use std::error::Error;
 use std::fmt;
 
-/// Why a poll has no end.
+/// Why a poll has no result.
 #[derive(Clone, Copy, Debug, PartialEq, Eq)]
 pub enum PollFault {
     /// The card of draw `k` has no record among the seen.
     NoRecord { card: u32, k: u32 },
-    /// Memory could not be had.
+    /// Memory could not be allocated.
     Memory,
 }
 

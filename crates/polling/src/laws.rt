@@ -4,8 +4,8 @@ ghost use Rattle.polling.specs.Laws.{FactorLaw, PollIsComparison, PolledIsCounte
 ghost use Rattle.polling.specs.EachLimit.{EachIsCounted, EachLimit, EachValuesLimit};
 ghost use Rattle.polling.specs.PollLimit.{PollLimit, PollValuesLimit};
 
-/// If the actual rankings of the cards may elect another candidate than a set of assertions proves, the poll can confirm all of them on
-/// at most `limit` millionths of all sequences of `n` cards.
+/// If the actual rankings of the cards may elect a candidate other than the one a set of assertions proves, the poll can confirm all of these
+/// assertions on at most `limit` millionths of all sequences of `n` cards.
 pub fn poll_limit()
     ensures { PollLimit }
 {}
@@ -25,13 +25,13 @@ pub fn poll_is_comparison()
     ensures { PollIsComparison }
 {}
 
-/// The factor of a draw there.
+/// The factor of a draw in that comparison.
 pub fn factor()
     ensures { (gamma s : ℕ) → FactorLaw gamma s }
 {}
 
-/// If the actual rankings of the cards may elect another candidate than a set of assertions proves, a poll that is looked at after each
-/// draw can confirm all of them on at most `limit` millionths of all sequences of `n` cards, whatever gamma each of them has.
+/// If the actual rankings of the cards may elect a candidate other than the one a set of assertions proves, a poll that is looked at after
+/// each draw can confirm all of these assertions on at most `limit` millionths of all sequences of `n` cards, whatever gamma each of them has.
 pub fn each_limit()
     ensures { EachLimit }
 {}
@@ -41,7 +41,7 @@ pub fn each_values_limit()
     ensures { EachValuesLimit }
 {}
 
-/// Such a poll that confirms claims by the draws of a seed is among those that the limit counts.
+/// A poll like this that confirms claims by the draws of a seed is among those that the limit counts.
 pub fn each_is_counted()
     ensures { EachIsCounted }
 {}

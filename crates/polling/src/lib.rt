@@ -1,5 +1,5 @@
-//! Ballot polling: the assertions of a file are audited only by what is seen of drawn cards, if no card can be matched with its record
-//! (Stark, SHANGRLA, section 3).
+//! Ballot polling: if no card can be matched with its record, the assertions of a file are audited only by what is seen of the drawn
+//! cards (Stark, SHANGRLA, section 3).
 #![tactic(auto)]
 
 mod counts;

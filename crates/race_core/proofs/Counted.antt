@@ -1,4 +1,4 @@
--- How many pieces are closed, by the marks.
+-- The number of closed pieces, by the marks.
 use Rattle.std.proofs.Common.{◌≡◌, ℕ, suc, ◌+◌, ◌<◌, Bool, true, false, cond, List, [], ◌∷◌, map, take, length, get_or, slice_index, slice_get, All, Some, count_by, refl, sym, ap, ◌∙◌, inl, inr}
 use Rattle.std.specs.List.{range_with_len, fold}
 use Rattle.std.specs.Option.{option_map}

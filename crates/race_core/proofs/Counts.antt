@@ -1,4 +1,4 @@
--- How many elements of a list pass a test.
+-- The number of elements of a list that pass a test.
 use Rattle.std.proofs.Common.{◌≡◌, ◌↔◌, ◌+◌, Bool, true, false, ◌&&◌, List, [], ◌∷◌, length, count_by, refl, sym, ◌∙◌, arith, cond}
 use Rattle.std.specs.List.{list_all}
 use Rattle.std.proofs.lemmas.List.Sums.{sum_by-cons, count_by-le-length}

@@ -1,4 +1,4 @@
--- How the steps of the race show in the fields of a `State`: the race shown afterwards, and that the fields stay sound.
+-- How the steps of the race appear in the fields of a `State`: the race shown afterwards, and that the fields stay sound.
 use Rattle.std.proofs.Common.{◌≡◌, ◌≢◌, ℕ, zero, suc, ◌+◌, ◌<◌, ◌≤◌, min, Bool, true, false, ◌&&◌, ◌==◌, not, cond, nat_lt, nat_le, List, [], ◌∷◌, ◌++◌, map, filter, length, get_or, set, replicate, slice_get, slice_index, All, Some, None, refl, sym, ap, ◌∙◌, arith}
 use Rattle.std.specs.List.{range_with_len}
 use Rattle.std.specs.Option.{option_and_then}
@@ -20,13 +20,13 @@ use Rattle.race_core.proofs.Shown.{numbered_set, ready_step, ready_at, closed_af
 set_same : {A : Type 0} (xs : List A) (k : ℕ) (x : A) → slice_get xs k ≡ Some x → set xs k x ≡ xs
 set_same xs k x at = rw (get_or_from_slice_get xs k x x at) at (set-get_or xs k x)
 
--- a piece is written whose field is as it was
+-- a piece is written, one of whose fields is unchanged
 pub same_field : {A : Type 0} (f : Piece → A) (ps : List Piece) (n : ℕ) (q : Piece) → n < length ps → q ≡ get_or ps n q → set (map f ps) n (f q) ≡ map f ps
 same_field f ps n q inside at =
     ap (set (map f ps) n) (ap f at ∙ sym (get_or-map f ps n q (f q) inside)) ∙ set-get_or (map f ps) n (f q)
 
 module _ (ps : List Piece) (cs : List ℕ) (es : List Entry) (n b : ℕ) where
-  -- what an event does, where its worker may step
+  -- what an event does, if its worker may step
   pub taking : (k : ℕ) → step (shown_race ps cs es n b) (Take k)
       ≡ option_and_then (λ e. take_next (shown_race ps cs es n b) k (shown_worker (takers ps) cs n k e)) (ready_entry es k)
   taking k = ready_step (shown_worker (takers ps) cs n) es k (take_next (shown_race ps cs es n b) k) (λ e. refl)
@@ -43,20 +43,20 @@ module _ (ps : List Piece) (cs : List ℕ) (es : List Entry) (n b : ℕ) where
       ≡ option_and_then (λ e. close (shown_race ps cs es n b) k p (shown_worker (takers ps) cs n k e)) (ready_entry es k)
   closing k p = ready_step (shown_worker (takers ps) cs n) es k (close (shown_race ps cs es n b) k p) (λ e. refl)
 
-  -- a worker whose entry alone changed
+  -- a worker, only whose entry changed
   pub entry_set : (k : ℕ) (e : Entry) → numbered (shown_worker (takers ps) cs n) 0 (set es k e)
       ≡ set (numbered (shown_worker (takers ps) cs n) 0 es) k (shown_worker (takers ps) cs n k e)
   entry_set k e = numbered_set (shown_worker (takers ps) cs n) (shown_worker (takers ps) cs n) 0 es k e (shown_worker (takers ps) cs n k e)
       (λ i d apart. refl) (ap (λ i. shown_worker (takers ps) cs n i e) (zero-add k))
 
-  -- a worker that may not step, or is none
+  -- a worker that may not step, or doesn't exist
   pub not_ready : (event : Event) → None ≡ ready_entry es (worker_of event) → step (shown_race ps cs es n b) event ≡ None
   not_ready (Take k) none = taking k ∙ ap (option_and_then (λ d. take_next (shown_race ps cs es n b) k (shown_worker (takers ps) cs n k d))) (sym none)
   not_ready (Look k) none = looking k ∙ ap (option_and_then (λ d. look (shown_race ps cs es n b) k (shown_worker (takers ps) cs n k d))) (sym none)
   not_ready (Post k m) none = posting k m ∙ ap (option_and_then (λ d. post (shown_race ps cs es n b) k m (shown_worker (takers ps) cs n k d))) (sym none)
   not_ready (Close k p) none = closing k p ∙ ap (option_and_then (λ d. close (shown_race ps cs es n b) k p (shown_worker (takers ps) cs n k d))) (sym none)
 
-  -- ---- each event that is taken, at the entry e of the worker k
+  -- ---- each event that is taken, for the entry e of the worker k
 
   pub looked : (k : ℕ) (e : Entry) → Some e ≡ ready_entry es k
       → step (shown_race ps cs es n b) (Look k) ≡ Some (shown_race ps cs (set es k record { seen = b; posted = e.posted; looks = e.looks + 1; done = e.done })
@@ -110,7 +110,7 @@ module _ (ps : List Piece) (cs : List ℕ) (es : List Entry) (n b : ℕ) where
             (entry_set k record { seen = e.seen; posted = e.posted; looks = e.looks; done = true }) x;
       })
 
-  -- the next piece is the worker's
+  -- the worker gets the next piece
   pub took : (k : ℕ) (e : Entry) (q : Piece) → Some e ≡ ready_entry es k → e.done ≡ false → n < length ps → q ≡ get_or ps n q → All (λ p. p < n) cs
       → step (shown_race ps cs es n b) (Take k) ≡ Some (shown_race (set ps n record { value = q.value; taker = k; is_closed = q.is_closed }) cs es (n + 1) b)
   took k e q ready more left at low =
@@ -153,7 +153,7 @@ module _ (ps : List Piece) (cs : List ℕ) (es : List Entry) (n b : ℕ) where
       ∙ cond-true (nat_lt n (length (map (λ (d : Piece). d.value) ps))) _ _ (lt-ltb n _ (rw (length-map ps (λ (d : Piece). d.value)) left))
       ∙ (λ x. Some record { values = sym values' x; next = n + 1; bound = b; workers = workers' x })
 
-  -- ---- closing the piece p, which is taken: q is what is kept of it
+  -- ---- closing the piece p, which is taken: q is what the race keeps of it
 
   module _ (k p : ℕ) (e : Entry) (q : Piece) (ready : Some e ≡ ready_entry es k) (taken : p < n) (within : n ≤ length ps) (at : q ≡ get_or ps p q)
       (mark : is_in cs p ≡ q.is_closed) where

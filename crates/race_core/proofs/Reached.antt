@@ -1,4 +1,5 @@
--- The race law, by a fact that each event keeps: the bound is at least the least value, and at most the value of each closed piece.
+-- The race law, from a fact that each event preserves: the bound is at least the smallest value, and at most the value of each
+-- closed piece.
 use Rattle.std.proofs.Common.{◌≡◌, ℕ, ◌<◌, ◌≤◌, min, true, false, ◌&&◌, ◌==◌, not, nat_le, nat_lt, List, [], ◌∷◌, ◌++◌, length, fold, slice_get, slice_index, get_or, All, Option, Some, None, IfSome, refl, sym, ◌∙◌, subst, arith, inl, inr}
 use Rattle.std.proofs.Math.Nat.{min-le_left, le-min, le_trans, le_antisymm, zero-add}
 use Rattle.std.proofs.lemmas.List.{get_or_default}
@@ -17,7 +18,7 @@ use Rattle.irv_base.specs.Candidates.{is_in}
 use Rattle.race_core.specs.Race.{Worker, Race, new_worker, start, take_next, look, post, close, after, run, is_closed, all_closed}
 use Rattle.race_core.specs.Laws.{RaceLaw}
 
--- what is below each number of a list is below the least
+-- what is at most each number of a list is at most the smallest
 least_from : (b x : ℕ) (xs : List ℕ) → b ≤ x → All (λ y. b ≤ y) xs → b ≤ fold min x xs
 least_from b x [] h all = h
 least_from b x (y ∷ ys) h all = least_from b (min x y) ys (le-min h (All-head (λ z. b ≤ z) y ys all)) (All-tail (λ z. b ≤ z) y ys all)
@@ -38,7 +39,7 @@ record IsReached (values : List ℕ) (r : Race) : Type 0 where
 abbrev AfterIsReached : List ℕ → Option Race → Type 0
 AfterIsReached values o = IfSome o (IsReached values)
 
--- at the worker that an event names
+-- for the worker that an event names
 at_worker : (values : List ℕ) (f : Worker → Option Race) (o : Option Worker) → ((w : Worker) → o ≡ Some w → AfterIsReached values (f w)) →
     AfterIsReached values (option_and_then f o)
 at_worker values f None h = tt
@@ -49,7 +50,7 @@ below_at values r k w h e =
     subst (IsBelowClosed values r.bound) (get_or_from_slice_get r.workers k w w e)
     (All-get_or (IsBelowClosed values r.bound) r.workers k w (slice_get_within r.workers k w e) h.below)
 
--- a worker that closed one piece more
+-- a worker that closed one more piece
 closed_more : (values : List ℕ) (bound p : ℕ) (closed : List ℕ) → bound ≤ slice_index values p →
     ((q : ℕ) → is_in closed q ≡ true → bound ≤ slice_index values q) →
     (q : ℕ) → is_in (closed ++ p ∷ []) q ≡ true → bound ≤ slice_index values q
@@ -108,7 +109,7 @@ after_reached values r (Look k) h = look_reached values r k h
 after_reached values r (Post k m) h = post_reached values r k m h
 after_reached values r (Close k p) h = close_reached values r k p h
 
--- what holds of a race goes on through a function that keeps it
+-- what holds for a race continues to hold through a function that keeps it
 onwards : (values : List ℕ) (f : Race → Option Race) (o : Option Race) → AfterIsReached values o →
     ((r : Race) → IsReached values r → AfterIsReached values (f r)) → AfterIsReached values (option_and_then f o)
 onwards values f None h keeps = tt
@@ -125,7 +126,7 @@ start_reached values first workers h = record {
   below = All-replicate (IsBelowClosed values first) workers (new_worker first) (λ p closed. cc);
 }
 
--- where all pieces are closed, no value is below the bound
+-- if all pieces are closed, no value is below the bound
 all_above : (values : List ℕ) (r : Race) → IsReached values r → all_closed r ≡ true → All (λ v. r.bound ≤ v) values
 all_above values r h closed k d inside =
     let closed' = subst (λ vs. list_all (is_closed r) (range_with_len 0 (length vs)) ≡ true) h.same closed in

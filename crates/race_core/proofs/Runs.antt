@@ -1,4 +1,4 @@
--- Events in a row, one more at a time.
+-- Sequences of events, with one more added at a time.
 use Rattle.std.proofs.Common.{◌≡◌, ◌+◌, Bool, true, false, cond, List, [], ◌∷◌, ◌++◌, Option, Some, None, ap, ◌∙◌}
 use Rattle.std.specs.Option.{option_and_then, option_map_or}
 use Rattle.race_core.specs.declared.event.Event.{Event}

@@ -120,7 +120,7 @@ module _ (ps : List Piece) (cs : List ℕ) (es : List Entry) (n closed lowest : 
       or_nothing true = refl
       or_nothing false = refl
 
-  -- closed pieces are taken ones
+  -- closed pieces are taken
   pub closed_below : All (λ p. p < n) (take closed cs)
   closed_below k d inside =
       let p = get_or (take closed cs) k d in

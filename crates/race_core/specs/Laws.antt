@@ -4,7 +4,7 @@ use Rattle.race_core.specs.declared.event.Event.{Event}
 use Rattle.irv_base.specs.Tabulation.{least}
 use Rattle.race_core.specs.Race.{Race, start, run, all_closed, closed_count}
 
--- over every list of events that are enabled, once all pieces are closed the bound is the least value
+-- for every list of enabled events, once all pieces are closed, the bound is the smallest value
 abbrev pub RaceLaw : Type 0
 RaceLaw =
     (values : List ℕ) (first workers : ℕ) (events : List Event) (r : Race) →
@@ -12,6 +12,6 @@ RaceLaw =
     run (start values first workers) events ≡ Some r → IsTrue (all_closed r) →
     r.bound ≡ least values
 
--- as many pieces are closed as there are, exactly if each of them is
+-- the number of closed pieces is the number of pieces exactly if each piece is closed
 abbrev pub ClosedLaw : Type 0
 ClosedLaw = (r : Race) → IsTrue (all_closed r) ↔ (closed_count r ≡ length r.values)

@@ -1,4 +1,5 @@
--- The race: workers take pieces, look at a shared bound, lower it by posts, and close pieces. Each event is one step of one worker.
+-- The race: workers take pieces, look at a shared bound, lower it with posts, and close pieces. Each event is one step of one
+-- worker.
 use Rattle.std.specs.Prelude.{ℕ, ◌+◌, ◌-◌, ◌^◌, min, Bool, true, false, not, ◌&&◌, ◌==◌, nat_le, nat_lt, if◌then◌else◌, List, [], ◌∷◌, ◌++◌, length, count_by, Option, Some, None, option_and_then, slice_index, slice_get, slice_set, replicate}
 use Rattle.std.specs.Option.{option_map_or}
 use Rattle.std.specs.List.{list_any, list_all, range_with_len}
@@ -7,7 +8,8 @@ use Rattle.irv_base.specs.Tabulation.{least}
 use Rattle.race_core.specs.declared.event.Event.{Event}
 use Rattle.race_core.specs.declared.event.Event.TheVariants.{Take, Look, Post, Close}
 
--- what one worker took and closed, the least bound that it has seen, the least value that it posted, its number of looks, and whether it is done
+-- what one worker took and closed, the smallest bound that it has seen, the smallest value that it posted, its number of looks, and
+-- whether it is done
 pub record Worker : Type 0 where
   pub taken : List ℕ
   pub closed : List ℕ
@@ -38,13 +40,13 @@ start values first workers =
       workers = replicate workers (new_worker first);
     }
 
--- ---- the four events, at the worker w of number k: the race afterwards, or none where the event is not enabled
+-- ---- the four events, for the worker w with number k: the race afterwards, or none if the event is not enabled
 
 abbrev pub with_worker : Race → ℕ → Worker → Race
 with_worker r k w =
     record { values = r.values; next = r.next; bound = r.bound; workers = slice_set r.workers k w }
 
--- the next piece is the worker's; if none is left, the worker is done
+-- the worker gets the next piece; if none is left, the worker is done
 abbrev pub take_next : Race → ℕ → Worker → Option Race
 take_next r k w =
     if w.done then None
@@ -60,7 +62,7 @@ take_next r k w =
 abbrev pub look : Race → ℕ → Worker → Option Race
 look r k w = Some (with_worker r k record w { seen = r.bound; looks = w.looks + 1 })
 
--- a value that is no less than the least lowers the bound, and the worker sees that
+-- a value that is at least the smallest value lowers the bound, and the worker sees that bound
 abbrev pub post : Race → ℕ → ℕ → Worker → Option Race
 post r k m w =
     if nat_le (least r.values) m then Some record {
@@ -79,7 +81,7 @@ close r k p w =
     record w { closed = w.closed ++ p ∷ []; seen = r.bound; looks = w.looks + 1 })
     else None
 
--- ---- events in a row
+-- ---- sequences of events
 
 -- the race after the event, or none if it is not enabled
 abbrev pub after : Race → Event → Option Race
@@ -88,7 +90,7 @@ after r (Look k) = option_and_then (look r k) (slice_get r.workers k)
 after r (Post k m) = option_and_then (post r k m) (slice_get r.workers k)
 after r (Close k p) = option_and_then (close r k p) (slice_get r.workers k)
 
--- the race after all of the events, or none if one of them is not enabled
+-- the race after all the events, or none if one of them is not enabled
 abbrev pub run : Race → List Event → Option Race
 run r [] = Some r
 run r (e ∷ es) = option_and_then (λ s. run s es) (after r e)
@@ -113,7 +115,7 @@ worker_of (Look k) = k
 worker_of (Post k m) = k
 worker_of (Close k p) = k
 
--- the worker's looks are at the last u64
+-- the worker's count of looks is at the greatest u64
 abbrev pub is_out_of_looks : Race → ℕ → Bool
 is_out_of_looks r k = option_map_or (λ w. w.looks == 2 ^ 64 - 1) (slice_get r.workers k) false
 
@@ -121,7 +123,7 @@ is_out_of_looks r k = option_map_or (λ w. w.looks == 2 ^ 64 - 1) (slice_get r.w
 abbrev pub step : Race → Event → Option Race
 step r e = if is_out_of_looks r (worker_of e) then None else after r e
 
--- how many events are taken before the first that is not
+-- the number of events taken before the first that is not
 abbrev pub taken_count : Race → List Event → ℕ
 taken_count r [] = 0
 taken_count r (e ∷ es) = option_map_or (λ s. 1 + taken_count s es) (step r e) 0

@@ -1,4 +1,4 @@
--- How the fields of a `State` show a race.
+-- How the fields of a `State` represent a race.
 use Rattle.std.specs.Prelude.{ℕ, ◌-◌, ◌^◌, ◌≡◌, ◌≤◌, ◌<◌, ◌==◌, Bool, true, false, suc, if◌then◌else◌, List, [], ◌∷◌, map, filter, take, length, count_by, slice_index, slice_index_or, slice_get, Option, Some, None, option_and_then}
 use Rattle.std.specs.List.{range_with_len}
 use Rattle.race_core.specs.declared.state.Piece.{Piece}
@@ -7,7 +7,7 @@ use Rattle.irv_base.specs.Tabulation.{least}
 use Rattle.irv_base.specs.Candidates.{is_in}
 use Rattle.race_core.specs.Race.{Worker, Race}
 
--- who took each piece, if it is taken
+-- who took each piece, for the pieces that are taken
 abbrev pub takers : List Piece → List ℕ
 takers pieces = map (λ q. q.taker) pieces
 
@@ -17,7 +17,7 @@ is_taker takers k p = slice_index takers p == k
 abbrev pub is_marked : List Piece → ℕ → Bool
 is_marked pieces p = slice_index_or (map (λ q. q.is_closed) pieces) p false
 
--- worker k, with its entry, if the pieces below `next` are taken and those of `closings` are closed
+-- worker k, with its entry, if the pieces below `next` are taken and the pieces in `closings` are closed
 abbrev pub shown_worker : List ℕ → List ℕ → ℕ → ℕ → Entry → Worker
 shown_worker takers closings next k entry = record {
   taken = filter (is_taker takers k) (range_with_len 0 next);
@@ -28,7 +28,7 @@ shown_worker takers closings next k entry = record {
   done = entry.done;
 }
 
--- each entry with its number, from k on
+-- each entry with its number, starting at k
 abbrev pub numbered : (ℕ → Entry → Worker) → ℕ → List Entry → List Worker
 numbered f k [] = []
 numbered f k (entry ∷ entries) = f k entry ∷ numbered f (suc k) entries
@@ -41,7 +41,7 @@ shown_race pieces closings entries next bound = record {
   workers = numbered (shown_worker (takers pieces) closings next) 0 entries;
 }
 
--- what the fields keep: the first `closed` of `closings` are the pieces that are marked as closed
+-- the invariant of the fields: the first `closed` of `closings` are the pieces marked as closed
 pub record IsSound (pieces : List Piece) (closings : List ℕ) (entries : List Entry)
     (next closed lowest : ℕ) : Type 0 where
   pub few : length pieces < 2 ^ 32
@@ -54,7 +54,7 @@ pub record IsSound (pieces : List Piece) (closings : List ℕ) (entries : List E
   pub counted : closed ≡ count_by (λ q. q.is_closed) pieces
   pub lowest_is : lowest ≡ least (map (λ q. q.value) pieces)
 
--- the entry of the worker k, if it has looks left
+-- the entry of worker k, if it has looks left
 abbrev pub ready_entry : List Entry → ℕ → Option Entry
 ready_entry entries k =
     option_and_then (λ entry. if entry.looks == 2 ^ 64 - 1 then None else Some entry)

@@ -1,4 +1,4 @@
-// What one worker does in one step.
+// A single step of one worker.
 
 /// One step of one worker. Workers and pieces are named by their numbers, from 0.
 #[derive(Clone, Copy, Debug, PartialEq, Eq)]
@@ -7,7 +7,7 @@ pub enum Event {
     Take { worker: u32 },
     /// The worker looks at the bound.
     Look { worker: u32 },
-    /// The worker lowers the bound to `m`, if it is above.
+    /// The worker lowers the bound to `m`, if the bound is above `m`.
     Post { worker: u32, m: u32 },
     /// The worker closes a piece that it took, with a look at the bound.
     Close { worker: u32, piece: u32 },

@@ -1,7 +1,7 @@
 // The laws of the race.
 ghost use Rattle.race_core.specs.Laws.{RaceLaw, ClosedLaw};
 
-/// However the workers of a race take turns, once all pieces are closed the bound is the least value.
+/// However the workers of a race take turns, once all pieces are closed, the bound is the smallest value.
 pub fn racing()
     ensures { RaceLaw }
 {}

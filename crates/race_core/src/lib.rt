@@ -1,4 +1,4 @@
-//! The race of workers over the pieces of a search, as a machine over events, apart from threads and memory that is shared.
+//! The race of workers over the pieces of a search, as a machine over events, separate from threads and shared memory.
 #![tactic(auto)]
 
 mod event;

@@ -11,9 +11,9 @@ use irv_base::Memory;
 use std::alloc::Global;
 use std::marker::Model;
 
-/// A race of workers over pieces: what each worker took, closed, saw and posted, the next piece and the bound.
+/// A race of workers over pieces: what each worker took, closed, saw and posted, the next piece, and the bound.
 ///
-/// It is made with all the room that it will need: no event takes memory.
+/// All the room that it will need is allocated when it is made: no event allocates memory.
 #[derive(Drop)]
 pub struct State {
     pieces: Vec<Piece>,
@@ -33,7 +33,7 @@ struct Piece {
     is_closed: bool,
 }
 
-/// What is kept of a worker, apart from its pieces.
+/// What a race keeps of a worker, apart from its pieces.
 #[derive(Clone, Copy)]
 struct Entry {
     seen: u32,
@@ -58,7 +58,7 @@ impl Model for State {
 }
 
 impl State {
-    /// The start of a race over pieces of these values, with `first` as the bound.
+    /// Starts a race over pieces of these values, with `first` as the bound.
     pub fn start(alloc: Global, values: &[u32], first: u32, workers: u32) -> Result<State, Memory>
         requires some { 1 ≤ length values.now }
         requires few { length values.now < 2 ^ 32 }
@@ -85,7 +85,7 @@ impl State {
         })
     }
 
-    /// Takes events in turn up to the first that is not taken, and answers how many were.
+    /// Takes events in order, up to the first that is not taken, and returns the number taken.
     pub fn run(&mut self, events: &[Event]) -> usize
         ensures count { result ≡ taken_count self.old events.now }
         ensures race { run self.old (take result events.now) ≡ Some self.new }
@@ -98,7 +98,8 @@ impl State {
         events.len()
     }
 
-    /// Takes one event. False if it is not enabled, or if the looks of its worker are at the last u64: the race is then as it was.
+    /// Takes one event. Returns false if the event is not enabled, or if its worker's count of looks is at the greatest u64. The
+    /// race is then unchanged.
     pub fn step(&mut self, event: Event) -> bool
         ensures taken { OnTrue result (step self.old event ≡ Some self.new) }
         ensures refused { OnFalse result ((step self.old event ≡ None) × (self.new ≡ self.old)) }
@@ -206,7 +207,7 @@ impl State {
         self.next
     }
 
-    /// How many pieces are closed.
+    /// The number of closed pieces.
     pub fn closed(&self) -> u32
         ensures { result ≡ closed_count self.now }
     {

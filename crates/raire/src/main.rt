@@ -1,4 +1,4 @@
-//! The program: the words of the command line, real files, the standard streams, and the top call.
+//! The program. It runs the top call on the words of the command line, real files and the standard streams.
 #![tactic(auto)]
 
 use cli_base::{Refusal, deliver};
@@ -9,10 +9,10 @@ use std::process::ExitCode;
 use std::rt::Env;
 use std::{env, io};
 
-// The status if the system doesn't give the words, or one of them isn't UTF-8.
+// The status if the system doesn't give the words, or if one of them isn't UTF-8.
 const NO_WORDS: u8 = 13;
 
-/// The words of the command line without the program's name.
+/// Returns the words of the command line without the program's name.
 fn collect_words<R: Env + AllocGlobal>(rt: &R) -> io::Result<Vec<String>> {
     let mut words = Vec::new(rt.alloc());
     for word in env::args(rt)?.skip(1) {

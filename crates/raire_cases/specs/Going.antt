@@ -1,4 +1,4 @@
--- A session goes on by a round, or is the one that it was.
+-- A session continues with a round, or stays as it was.
 use Rattle.std.specs.Prelude.{◌≡◌, ℕ, Bool, List, Result, IfOk, IfErr, OnErr}
 use Rattle.assertion_file.specs.Content.{Content as FileContent}
 use Rattle.manifest.specs.declared.recorded.Recorded.{Recorded}
@@ -10,7 +10,7 @@ use Rattle.audit_session.specs.Going.{next_session}
 use Rattle.audit_session.specs.Refusals.{Refuses, refusal}
 use Rattle.audit_session.specs.declared.fault.AdvanceFault.{AdvanceFault}
 
--- the answer to a call that goes on with a session, and the session after it
+-- the answer to a call that continues a session, and the session after it
 pub record GoesOn (session : Content) (file : FileContent) (recorded : List Recorded)
     (entries : List Entry) (draws : ℕ) (answer : Result Bool AdvanceFault)
     (after : Content) : Type 0 where

@@ -1,4 +1,4 @@
-// Adoptions of the claims about one contest: a row a call, each over the ballots and a claims file.
+// Adoptions of the claims about one contest. Each row is a call over the ballots and a claims file.
 use crate::cases::{hold, ran_over};
 use crate::table::{BALLOTS, PRINTED};
 use std::test::Fail;
@@ -10,24 +10,24 @@ const ADOPTED: &str = "\
 \"winner\":\"3\"}],\"candidates\":[\"1\",\"2\",\"3\"],\"contest\":\"1\",\"margin\":1,\"records\":12,\"version\":3,\
 \"winner\":\"2\"}\n";
 
-// The assertions alone.
+// Only the assertions.
 const CLAIMS: &str = "\
 {\"candidates\":[\"1\",\"2\",\"3\"],\"contest\":\"1\",\"winner\":\"2\",\"assertions\":[{\"kind\":\"NEB\",\"winner\":\"2\",\
 \"loser\":\"3\"},{\"kind\":\"NEN\",\"winner\":\"2\",\"loser\":\"1\",\"rest\":[\"1\",\"2\"]},{\"kind\":\"NEN\",\
 \"winner\":\"3\",\"loser\":\"1\",\"rest\":[\"1\",\"3\"]}]}";
 
-// In another order, one of them twice, with margins that say nothing.
+// The assertions in another order, one of them twice, with margins that mean nothing.
 const OTHER_MARGINS: &str = "\
 {\"candidates\":[\"1\",\"2\",\"3\"],\"contest\":\"1\",\"winner\":\"2\",\"assertions\":[{\"kind\":\"NEN\",\"winner\":\"3\",\
 \"loser\":\"1\",\"rest\":[\"1\",\"3\"]},{\"kind\":\"NEB\",\"winner\":\"2\",\"loser\":\"3\",\"margin\":0},{\"kind\":\"NEN\",\
 \"winner\":\"2\",\"loser\":\"1\",\"rest\":[\"1\",\"2\"]},{\"kind\":\"NEB\",\"winner\":\"2\",\"loser\":\"3\",\"margin\":7}]}";
 
-// Without one that is needed.
+// The assertions without one that is needed.
 const LESS: &str = "\
 {\"candidates\":[\"1\",\"2\",\"3\"],\"contest\":\"1\",\"winner\":\"2\",\"assertions\":[{\"kind\":\"NEB\",\"winner\":\"2\",\
 \"loser\":\"3\"},{\"kind\":\"NEN\",\"winner\":\"3\",\"loser\":\"1\",\"rest\":[\"1\",\"3\"]}]}";
 
-// With one that isn't true.
+// The assertions with one that isn't true.
 const UNTRUE: &str = "\
 {\"candidates\":[\"1\",\"2\",\"3\"],\"contest\":\"1\",\"winner\":\"2\",\"assertions\":[{\"kind\":\"NEB\",\"winner\":\"2\",\
 \"loser\":\"3\"},{\"kind\":\"NEB\",\"winner\":\"1\",\"loser\":\"2\"},{\"kind\":\"NEN\",\"winner\":\"2\",\"loser\":\"1\",\
@@ -37,11 +37,11 @@ const UNTRUE: &str = "\
 const OTHER_WINNER: &str = "\
 {\"candidates\":[\"1\",\"2\",\"3\"],\"contest\":\"1\",\"winner\":\"1\",\"assertions\":[]}";
 
-// They are about another contest.
+// The assertions are about another contest.
 const OTHER_CONTEST: &str = "\
 {\"candidates\":[\"1\",\"2\",\"3\"],\"contest\":\"2\",\"winner\":\"2\",\"assertions\":[]}";
 
-// One who isn't a candidate is named.
+// Someone who isn't a candidate is named.
 const OTHER_CANDIDATE: &str = "\
 {\"candidates\":[\"1\",\"2\",\"3\"],\"contest\":\"1\",\"winner\":\"2\",\"assertions\":[{\"kind\":\"NEB\",\"winner\":\"2\",\
 \"loser\":\"3\"},{\"kind\":\"NEB\",\"winner\":\"2\",\"loser\":\"4\"}]}";

@@ -1,4 +1,4 @@
-// A session for which memory was wanting is the one that it was, and goes on.
+// A session for which memory ran out is unchanged, and continues.
 ghost use Rattle.std.specs.Prelude.{◌≡◌, ◌≤◌, map, length, Err};
 ghost use Rattle.irv_base.specs.declared.limits.TheConstants.{MOST_DRAWS};
 ghost use Rattle.audit_session.specs.declared.fault.AdvanceFault.TheVariants.{Memory};
@@ -10,8 +10,8 @@ use audit_session::{AdvanceFault, SeenCards};
 use manifest::Linked;
 use std::alloc::Global;
 
-/// Goes on with a session, and tries it once more if memory was short. The answer is that of one call, of the session from before the
-/// first try; it is want of memory only if both tries had it.
+/// Continues a session, and tries once more if memory ran out. The answer is that of one call on the session as it was before the first try.
+/// It reports a lack of memory only if memory ran out in both tries.
 pub fn go_on(
     alloc: Global,
     trying: &mut Trying,

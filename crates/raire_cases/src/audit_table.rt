@@ -1,5 +1,5 @@
-// Worked cases of the commands of an audit that need no ballots: the files, and what a call over them comes to. The cards and
-// the numbers of draws were worked out by a plain program (acceptance/plain_audit.py), which shares no code with the suite.
+// Worked cases of the audit commands that need no ballots: the files, and what a call over them comes to. The cards and the numbers of draws
+// were worked out by a plain program (acceptance/plain_audit.py), which shares no code with the suite.
 use crate::table::{BAD_WORDS, File};
 
 /// The files of the commands that need no ballots.

@@ -7,7 +7,7 @@ const PRINTED: &str = "\
     {\"assertions\":[{\"draws\":5,\"kind\":\"NEB\",\"loser\":\"2\",\"margin\":5,\"winner\":\"1\"}],\"candidates\":[\"1\",\"2\"],\"cards\":5,\
     \"contest\":\"1\",\"gamma\":100,\"limit\":50000,\"margin\":5,\"order\":[\"1\",\"2\"],\"records\":5,\"version\":2,\"winner\":\"1\"}\n";
 
-// What a search of row1.raire prints over twelve cards, of which no number that is tried is enough for the margin of one vote.
+// What a search of row1.raire prints over twelve cards. No number of draws that is tried is enough for the margin of one vote.
 const PRINTED_OF_TWELVE: &str = "\
     {\"assertions\":[{\"draws\":null,\"kind\":\"NEB\",\"loser\":\"3\",\"margin\":1,\"winner\":\"2\"},{\"draws\":7,\"kind\":\"NEN\",\
     \"loser\":\"1\",\"margin\":2,\"rest\":[\"1\",\"2\"],\"winner\":\"2\"},{\"draws\":7,\"kind\":\"NEN\",\"loser\":\"1\",\"margin\":2,\

@@ -1,4 +1,4 @@
-// What a call takes, and what comes of it.
+// What a call takes, and what it comes to.
 use crate::table::{CASES, FAILING, FILES, File};
 use crate::{
     audit_table, cards_table, contests_table, plurality_table, poll_table, session_table,
@@ -11,7 +11,7 @@ use std::alloc::{AllocError, Global};
 use std::test::Fail;
 use std::thread::Threads;
 
-// Bytes that a sink has room for.
+// The number of bytes that a sink has room for.
 const SINK_ROOM: u32 = 200_000;
 
 /// What a call came to.
@@ -30,7 +30,7 @@ fn texts_of(alloc: Global, words: &[&str]) -> Result<Vec<String>, AllocError> {
     Ok(all)
 }
 
-/// The words of a line, with a blank between each two.
+/// The words of a line. One blank separates two words.
 pub(crate) fn words_of(alloc: Global, line: &str) -> Result<Vec<String>, AllocError> {
     let mut all = Vec::new(alloc);
     for word in line.split(' ') {
@@ -39,7 +39,7 @@ pub(crate) fn words_of(alloc: Global, line: &str) -> Result<Vec<String>, AllocEr
     Ok(all)
 }
 
-/// Adds a file of this name with this text.
+/// Adds a file with this name and this text.
 pub(crate) fn hold(
     alloc: Global,
     files: &mut Vec<Named>,
@@ -118,7 +118,7 @@ fn is_answer(status: u8) -> bool {
     matches!(status, 0 | 3..=6 | 10)
 }
 
-/// The run has this status, its text went to the sink of that status, and nothing besides was written.
+/// Whether the run has this status, its text went to the sink for that status, and nothing else was written.
 pub(crate) fn is_as_wanted(ran: &Ran, status: u8, text: &str) -> bool {
     let (said, silent) = if is_answer(status) {
         (&ran.out, &ran.err)
@@ -233,7 +233,7 @@ fn each_failing_call_comes_to_its_status_and_line(rt: HostRuntime) -> Result<(),
     Ok(())
 }
 
-// A file of this many zeros: its first field is no number.
+// Runs a search over a file of this many zero bytes, whose first field isn't a number.
 fn zeros<R: AllocGlobal + Threads + Sync>(rt: &R, bytes: u64) -> Result<Ran, AllocError> {
     let alloc = rt.alloc();
     let mut files = Vec::new(alloc);

@@ -1,10 +1,10 @@
-// Assertion files of one contest: what a search prints of it, with one text in it replaced, and what a check comes to.
+// Assertion files of one contest: what a search of it prints, with one text replaced, and what a check of that comes to.
 use crate::cases::{hold, ran_over};
 use crate::table::{BALLOTS, PRINTED};
 use std::alloc::{AllocError, Global};
 use std::test::Fail;
 
-// What is replaced, and what the check comes to.
+// What is replaced, and what the check then comes to.
 struct Change {
     shows: &'static str,
     old: &'static str,
@@ -237,7 +237,7 @@ const CHANGES: [Change; 27] = [
     },
 ];
 
-// What is printed, changed, if it has the text that is replaced.
+// The printed text with the change, if it has the text to be replaced.
 fn changed(alloc: Global, change: &Change) -> Result<Option<String>, AllocError> {
     let Some((before, after)) = PRINTED.split_once(change.old) else {
         return Ok(None);

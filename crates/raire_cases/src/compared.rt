@@ -1,4 +1,4 @@
-// The search, compared with the plain program, and with itself at other numbers of workers.
+// The search, compared with the plain program and with itself at other numbers of workers.
 use crate::cases::{Ran, hold, ran_over};
 use crate::contests::{SIZES, SMALL_SIZES, ballot_file, generated, generated_with_ties};
 use crate::plain::{Contest, Plain, search};
@@ -7,7 +7,7 @@ use std::alloc::{AllocError, Global};
 use std::test::Fail;
 use std::thread::Threads;
 
-// The file of a contest.
+// The name of a contest's file.
 const FILE: &str = "generated.raire";
 
 fn file_of(alloc: Global, contest: &Contest) -> Result<Vec<Named>, AllocError> {
@@ -17,7 +17,7 @@ fn file_of(alloc: Global, contest: &Contest) -> Result<Vec<Named>, AllocError> {
     Ok(files)
 }
 
-// A search by this many workers.
+// Runs a search with this many workers.
 fn searched<R: AllocGlobal + Threads + Sync>(
     rt: &R,
     contest: &Contest,
@@ -28,7 +28,7 @@ fn searched<R: AllocGlobal + Threads + Sync>(
     ran_over(rt, files, &words, &[], &[])
 }
 
-// The call came to the status and the bytes of the plain program, and to no word of a fault.
+// Whether the call came to the status and the bytes of the plain program, and wrote nothing about a fault.
 fn is_same(ran: &Ran, plain: &Plain) -> bool {
     let (status, text) = match plain {
         Plain::Certificate(text) => (0, text.as_str()),
@@ -44,7 +44,7 @@ fn agree<R: AllocGlobal + Threads + Sync>(rt: &R, number: u64) -> Result<bool, A
     Ok(is_same(&ran, &plain))
 }
 
-// The plain program's answer of a contest with many ties, at 1, 2, 4 and 8 workers.
+// Whether the search gives the plain program's answer for a contest with many ties, at 1, 2, 4 and 8 workers.
 fn agree_on_ties<R: AllocGlobal + Threads + Sync>(rt: &R, number: u64) -> Result<bool, AllocError> {
     let contest = generated_with_ties(rt.alloc(), number)?;
     let plain = search(rt.alloc(), &contest)?;
@@ -56,7 +56,7 @@ fn agree_on_ties<R: AllocGlobal + Threads + Sync>(rt: &R, number: u64) -> Result
     Ok(same)
 }
 
-// An answer or a tie, and the same bytes for 1, 2, 4 and 8 workers.
+// Whether the search gives an answer or a tie, with the same bytes for 1, 2, 4 and 8 workers.
 fn is_one<R: AllocGlobal + Threads + Sync>(rt: &R, number: u64) -> Result<bool, AllocError> {
     let contest = generated(rt.alloc(), number, SIZES)?;
     let one = searched(rt, &contest, "1")?;

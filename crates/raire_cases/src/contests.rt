@@ -4,13 +4,13 @@ use crate::plain::Contest;
 use irv_base::{Candidate, Ranking};
 use std::alloc::{AllocError, Global};
 
-// The most candidates of a contest.
+// The maximum number of candidates of a contest.
 const MOST: u8 = 8;
 
-/// How many numbers of candidates there are, from 2.
+/// The number of different sizes of contests, in candidates, from 2.
 pub const SIZES: u64 = 7;
 
-/// So many of them are few enough for the plain program.
+/// The number of these sizes that are small enough for the plain program.
 pub const SMALL_SIZES: u64 = 5;
 
 // The id of the contest.
@@ -26,7 +26,7 @@ struct Draws {
 }
 
 impl Draws {
-    // A number below `n`, and 0 if there is none.
+    // A number below `n`, or 0 if there is none.
     fn below(&mut self, n: u64) -> u64 {
         self.state = self
             .state
@@ -36,7 +36,7 @@ impl Draws {
     }
 }
 
-// The first candidates, this many of them.
+// The first `n` candidates.
 fn candidates(alloc: Global, n: u64) -> Result<Vec<Candidate>, AllocError> {
     let mut list = Vec::new(alloc);
     for c in 0..MOST {
@@ -47,7 +47,7 @@ fn candidates(alloc: Global, n: u64) -> Result<Vec<Candidate>, AllocError> {
     Ok(list)
 }
 
-// Candidates with small numbers are ranked more often.
+// A drawn ranking. Candidates with small numbers are ranked more often.
 fn ranking(draws: &mut Draws, candidates: &[Candidate]) -> Ranking {
     let n = candidates.len() as u64;
     let mut ranking = Ranking::empty();
@@ -60,17 +60,17 @@ fn ranking(draws: &mut Draws, candidates: &[Candidate]) -> Ranking {
     ranking
 }
 
-/// The contest of this number, with one of this many numbers of candidates in turn.
+/// The contest with this number. The numbers of candidates, of which there are `sizes`, are used in turn.
 pub fn generated(alloc: Global, number: u64, sizes: u64) -> Result<Contest, AllocError> {
     drawn(alloc, number, sizes, 20, 100)
 }
 
-/// The contest of this number, of few candidates and so few ballots that most have a tie.
+/// The contest with this number. It has few candidates, and so few ballots that most of these contests have a tie.
 pub fn generated_with_ties(alloc: Global, number: u64) -> Result<Contest, AllocError> {
     drawn(alloc, number, SMALL_SIZES, 0, 12)
 }
 
-// It has `fewest` ballots or more, one of this many numbers of ballots.
+// A drawn contest. It has at least `fewest` ballots, and `more` numbers of ballots are possible.
 fn drawn(
     alloc: Global,
     number: u64,

@@ -1,19 +1,19 @@
-// Worked cases of audits of all contests of a ballot file. Risks were worked out by a plain program (acceptance/plain_audit.py), which
+// Worked cases of audits of all contests of a ballot file. The risks were worked out by a plain program (acceptance/plain_audit.py), which
 // shares no code with the suite.
 use crate::table::{BAD_WORDS, File};
 
-// How contest 7 ends after five draws of its one card, on which the vote of its winner is seen.
+// How contest 7 ends after five draws of its only card, on which the vote for its winner is seen.
 const SEVEN: &str = "\
     contest 7\nrecords 1\nwinner 1\nmargin 1\nNEB 1 2 margin 1 counts 0 0 5 0 0 risk 0.048282842081079907 confirmed\nsigned off yes\n\
     all yes\n";
 
-/// Besides that, contest 8, whose card can't be found.
+/// The same, and how contest 8 ends, whose card can't be found.
 pub const BOTH: &str = "\
     contest 7\nrecords 1\nwinner 1\nmargin 1\nNEB 1 2 margin 1 counts 0 0 5 0 0 risk 0.048282842081079907 confirmed\nsigned off yes\n\
     contest 8\nrecords 1\nwinner 2\nmargin 1\nNEB 2 1 margin 1 counts 5 0 0 0 0 risk 1.000000000000000000 unconfirmed\nsigned off no\n\
     all no\n";
 
-// And if contest 8 has no ballots.
+// The same, if contest 8 has no ballots.
 const BESIDE_A_TIE: &str = "\
     contest 7\nrecords 1\nwinner 1\nmargin 1\nNEB 1 2 margin 1 counts 0 0 5 0 0 risk 0.048282842081079907 confirmed\nsigned off yes\n\
     contest 8\ntie\nround 1\ntied 1,2\ntally 0\nsigned off no\nall no\n";
@@ -33,7 +33,7 @@ pub const FILES: [File; 24] = [
         name: "eight_elsewhere.raire",
         text: "2\nContest,7,2,1,2\nContest,8,2,1,2\n7,b_1,1\n8,b_2,2\n",
     },
-    // Nor is one of the first, which comes after it.
+    // Nor is the card of a ballot of the first contest, which comes after it.
     File {
         name: "both_elsewhere.raire",
         text: "2\nContest,7,2,1,2\nContest,8,2,1,2\n8,b_2,2\n7,b_2,1\n",
@@ -50,7 +50,7 @@ pub const FILES: [File; 24] = [
         name: "many_contests.raire",
         text: "65\nContest,7,2,1,2\n",
     },
-    // With one node the first contest is spent, and the second has no ballots.
+    // With one node the first contest runs out of budget, and the second has no ballots.
     File {
         name: "spent_and_tie.raire",
         text: "\

@@ -1,4 +1,4 @@
-// Each call of the desk fails in turn, and each write of a sink.
+// Each call of the desk and each write of a sink fails in turn.
 ghost use Rattle.std.specs.Prelude.{None};
 
 use crate::cases::{Ran, case_ran, held, is_as_wanted, words_of};
@@ -8,13 +8,13 @@ use std::alloc::{AllocError, Global};
 use std::test::Fail;
 use std::thread::Threads;
 
-// How often the desk is called for a file: it is begun, its bytes come, and its end.
+// The number of desk calls for a file: it is begun, its bytes come, and its end comes.
 const CALLS: u32 = 3;
 
-// Bytes that a narrow sink takes at most of a write.
+// The maximum number of bytes that a narrow sink takes of a write.
 const NARROW: usize = 7;
 
-// A call that has an answer: its words, its status, and the files that it reads, first read first. These are on a contest.
+// Calls that have an answer: their words, status, and the files that they read, in that order. These calls are about a contest.
 const OF_CONTESTS: [(&str, u8, &[&str]); 11] = [
     ("search row1.raire", 0, &["row1.raire"]),
     ("search tie.raire", 3, &["tie.raire"]),
@@ -41,7 +41,7 @@ const OF_CONTESTS: [(&str, u8, &[&str]); 11] = [
     ),
 ];
 
-// And these on an audit.
+// These calls are about an audit.
 const OF_AUDITS: [(&str, u8, &[&str]); 11] = [
     ("sample three.csv --seed 2024! --draws 6", 0, &["three.csv"]),
     ("plan twelve.csv row1.json", 0, &["twelve.csv", "row1.json"]),
@@ -100,7 +100,7 @@ const OF_AUDITS: [(&str, u8, &[&str]); 11] = [
     ),
 ];
 
-// A call that is refused: its words, the call of the desk that fails, or 0, and its status.
+// Calls that are refused: their words, the desk call that fails, or 0, and their status.
 const REFUSED: [(&str, u32, u8); 12] = [
     ("", 0, 1),
     ("search", 0, 1),
@@ -178,7 +178,7 @@ fn is_same(ran: &Ran, own: &Ran) -> bool {
 
 // ---- the sinks
 
-// A sink that takes a few bytes of each write, of which one may be to fail. Its writes are counted from 1.
+// A sink that takes a few bytes of each write. One of its writes may be set to fail. Writes are counted from 1.
 #[derive(Drop)]
 struct NarrowSink {
     taken: Vec<u8>,
@@ -258,7 +258,7 @@ fn wrong_write<R: AllocGlobal + Threads + Sync>(
     })
 }
 
-// The first bytes of each text of a run came, this many, or the whole text if it is shorter.
+// Whether the first `taken` bytes of each text of a run came, or the whole text if it is shorter.
 fn has_prefixes(ran: &Ran, own: &Ran, taken: usize) -> bool {
     is_prefix(&ran.out, &own.out, taken) && is_prefix(&ran.err, &own.err, taken)
 }

@@ -1,11 +1,11 @@
-// A landslide over many small candidates: more suffixes than any number of nodes, and few sets. What it comes to was worked out by a plain
-// program (acceptance/plain.py), which shares no code with the suite.
+// A landslide over many small candidates. There are more suffixes than any number of nodes, but few sets. The results were worked out by a
+// plain program (acceptance/plain.py), which shares no code with the suite.
 use crate::cases::{Ran, hold, is_as_wanted, ran_over};
 use std::alloc::AllocError;
 use std::test::Fail;
 use std::thread::Threads;
 
-// Twelve candidates: half of 200 ballots rank `11` first, and ten others have few first preferences and are ranked by most.
+// Twelve candidates. Half of the 200 ballots rank `11` first. Ten other candidates have few first preferences, and most ballots rank them.
 const BALLOTS: &str = "\
     1\nContest,9,12,11,12,13,14,15,16,17,18,19,20,21,22\n9,b_1,11,12,15\n9,b_2,20,11,12,22,15,16,13\n9,b_3,11\n9,b_4,11,21,12\n\
     9,b_5,13,15,22,12,11\n9,b_6,13,11,12,14,15,21,22,18,17,19\n9,b_7,19,11,21,13,16,12,15\n9,b_8,11,22,12,20,13\n\

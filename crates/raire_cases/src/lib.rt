@@ -1,6 +1,5 @@
-//! Worked cases of the top call, over files and sinks in memory, assertion files of one contest that are checked, devices of which each
-//! call fails in turn, a comparison with a plain program, workers that wait for each other, and a session that is tried again if memory
-//! was short.
+//! Worked cases of the top call over files and sinks in memory, checks of assertion files of one contest, devices whose calls fail in turn,
+//! a comparison with a plain program, workers that wait for each other, and a session that is tried again if memory was short.
 #![tactic(auto)]
 
 #[cfg(test)]

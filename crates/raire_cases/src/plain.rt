@@ -1,17 +1,17 @@
-// The search by the definitions alone: every assertion, every suffix and every order of a contest, in full. It shares
+// The search, directly by the definitions. It goes through every assertion, every suffix and every order of a contest in full. It shares
 // candidates, sets and rankings with the program that it is compared with, and no other code.
 
 use irv_base::{CandSet, Candidate, Ranking};
 use std::alloc::{AllocError, Global};
 
-/// A contest whose candidates have numbers one after another as ids.
+/// A contest whose candidates have consecutive numbers as ids.
 #[derive(Drop)]
 pub struct Contest {
-    /// The number that is its id.
+    /// The id of the contest.
     pub id: u32,
     /// The id of the first candidate.
     pub first_id: u32,
-    /// In rising order.
+    /// The candidates, in increasing order.
     pub candidates: Vec<Candidate>,
     /// A ranking for each record.
     pub rankings: Vec<Ranking>,
@@ -24,8 +24,8 @@ pub enum Plain {
     Certificate(String),
 }
 
-// An assertion with its margin: that the winner can't be eliminated before the loser, or, with a set, that the winner isn't eliminated
-// next if exactly these are left.
+// An assertion with its margin. It says that the winner can't be eliminated before the loser or, with a set, that the winner isn't eliminated
+// next if exactly the candidates in this set are left.
 #[derive(Clone, Copy)]
 struct Claim {
     winner: Candidate,
@@ -34,15 +34,15 @@ struct Claim {
     margin: usize,
 }
 
-// The greatest margin of the claims that refute a suffix, and the place of the first claim that has it. The margin is
-// 0 if none refutes it.
+// The largest margin of the claims that refute a suffix, and the place of the first claim that has it. The margin is 0 if no claim refutes
+// the suffix.
 #[derive(Clone, Copy)]
 struct Low {
     margin: usize,
     place: usize,
 }
 
-// A suffix, read backwards, with its low and the margin of its parent's.
+// A suffix, read backwards, with its low and the margin of its parent's low.
 #[derive(Clone, Copy)]
 struct Suffix {
     backwards: Ranking,
@@ -64,7 +64,7 @@ impl Contest {
         set
     }
 
-    // The votes of a candidate if exactly these are left.
+    // The votes of a candidate if exactly these candidates are left.
     fn tally(&self, standing: CandSet, c: Candidate) -> usize {
         self.rankings
             .iter()
@@ -72,7 +72,7 @@ impl Contest {
             .count()
     }
 
-    // The ballots with the one before the other, or with the one alone.
+    // The number of ballots that rank `one` before `other`, or rank only `one` of the two.
     fn prefer(&self, one: Candidate, other: Candidate) -> usize {
         self.rankings
             .iter()
@@ -89,7 +89,7 @@ fn stands_before(list: &Ranking, one: Candidate, other: Candidate) -> bool {
     }
 }
 
-/// What a search of the contest prints: the certificate if each way of breaking its ties elects the same candidate, and the first tie
+/// What a search of the contest prints: the certificate if every way of breaking its ties elects the same candidate, and the first tie
 /// otherwise.
 pub fn search(alloc: Global, contest: &Contest) -> Result<Plain, AllocError> {
     match winners(alloc, contest)?.as_slice() {
@@ -98,7 +98,7 @@ pub fn search(alloc: Global, contest: &Contest) -> Result<Plain, AllocError> {
     }
 }
 
-// Those who may be last, a set of one for each, by all ways of breaking ties.
+// The candidates who may be last, over all ways of breaking ties. Each one is given as a set of one.
 fn winners(alloc: Global, contest: &Contest) -> Result<Vec<CandSet>, AllocError> {
     let mut all = Vec::new(alloc);
     all.push(contest.all())?;
@@ -108,7 +108,7 @@ fn winners(alloc: Global, contest: &Contest) -> Result<Vec<CandSet>, AllocError>
     Ok(all)
 }
 
-// What may be left after a round before which one of these sets was left, each set once.
+// The sets that may be left after a round if one of these sets was left before it. Each set is given once.
 fn after_a_round(
     alloc: Global,
     contest: &Contest,
@@ -128,7 +128,7 @@ fn after_a_round(
     Ok(left)
 }
 
-// The first tie if the one with the least number leaves among the tied. Some round of a contest that isn't decided has one.
+// The first tie if, among tied candidates, the one with the smallest number leaves. Some round of a contest that isn't decided has a tie.
 fn first_tie(alloc: Global, contest: &Contest) -> Result<Plain, AllocError> {
     let mut standing = contest.all();
     for round in 1..contest.candidates.len() {
@@ -152,7 +152,7 @@ fn least_tally(contest: &Contest, standing: CandSet) -> usize {
     least
 }
 
-// The candidates that are left and have this many votes.
+// The candidates who are left and have this many votes.
 fn of_tally(
     alloc: Global,
     contest: &Contest,
@@ -181,7 +181,7 @@ fn tie(
     Ok(Plain::Tie(text))
 }
 
-// Adds the ids of candidates, with a comma between each two.
+// Adds the ids of candidates, separated by commas.
 fn add_ids(text: &mut String, contest: &Contest, list: &[Candidate]) -> Result<(), AllocError> {
     let mut comma = "";
     for c in list {
@@ -192,7 +192,7 @@ fn add_ids(text: &mut String, contest: &Contest, list: &[Candidate]) -> Result<(
     Ok(())
 }
 
-// All sets of the contest's candidates, by their numbers.
+// All sets of the contest's candidates, in the order of their numbers.
 fn sets(alloc: Global, contest: &Contest) -> Result<Vec<CandSet>, AllocError> {
     let mut sets = Vec::new(alloc);
     sets.push(CandSet::empty())?;
@@ -205,8 +205,8 @@ fn sets(alloc: Global, contest: &Contest) -> Result<Vec<CandSet>, AllocError> {
     Ok(sets)
 }
 
-// The claims with a positive margin in their fixed order: those without a set first, then by winner, by loser and by
-// the number of the set.
+// The claims with a positive margin, in their fixed order: claims without a set first, then by winner, by loser and by the number of the
+// set.
 fn claims(alloc: Global, contest: &Contest) -> Result<Vec<Claim>, AllocError> {
     let mut claims = Vec::new(alloc);
     for winner in &contest.candidates {
@@ -227,7 +227,7 @@ fn claims(alloc: Global, contest: &Contest) -> Result<Vec<Claim>, AllocError> {
     Ok(claims)
 }
 
-// Adds the claim if its margin is positive. That of a candidate over itself isn't.
+// Adds the claim if its margin is positive. The margin of a candidate over itself isn't.
 fn add_claim(
     claims: &mut Vec<Claim>,
     contest: &Contest,
@@ -266,7 +266,7 @@ fn from_here(backwards: &Ranking, c: Candidate) -> Option<CandSet> {
     None
 }
 
-// No order that ends so is possible if the claim holds.
+// Whether no order that ends this way is possible if the claim holds.
 fn refutes(claim: &Claim, backwards: &Ranking) -> bool {
     match claim.rest {
         None => stands_before(backwards, claim.loser, claim.winner),
@@ -290,7 +290,7 @@ fn low_of(claims: &[Claim], backwards: &Ranking) -> Low {
     low
 }
 
-// Adds the suffix with one more candidate in front, that is at the end of what is read backwards.
+// Adds the suffix with one more candidate in front, which is the end when it is read backwards.
 fn add_suffix(
     suffixes: &mut Vec<Suffix>,
     claims: &[Claim],
@@ -309,7 +309,7 @@ fn add_suffix(
     Ok(())
 }
 
-// All suffixes that end in a candidate that isn't left: the shorter ones first, then by what is read backwards.
+// All suffixes that end in a candidate who isn't left, ordered by length and then by the suffix read backwards.
 fn suffixes(
     alloc: Global,
     contest: &Contest,
@@ -330,7 +330,7 @@ fn suffixes(
     Ok(all)
 }
 
-// The suffixes with one candidate more than these.
+// The suffixes with one more candidate than these.
 fn longer(
     alloc: Global,
     contest: &Contest,
@@ -363,7 +363,7 @@ fn least_hardness(contest: &Contest, suffixes: &[Suffix]) -> usize {
     least
 }
 
-// The first of the orders of this hardness.
+// The first of the orders with this hardness.
 fn easiest<'a>(contest: &Contest, suffixes: &'a [Suffix], hardness: usize) -> Option<&'a Suffix> {
     for suffix in suffixes {
         if is_order(contest, suffix) && suffix.low.margin == hardness {
@@ -373,12 +373,12 @@ fn easiest<'a>(contest: &Contest, suffixes: &'a [Suffix], hardness: usize) -> Op
     None
 }
 
-// A suffix that the margin refutes, while it doesn't refute its parent.
+// Whether the margin refutes this suffix but doesn't refute its parent.
 fn is_end(suffix: &Suffix, best: usize) -> bool {
     suffix.low.margin >= best && suffix.parent.is_none_or(|parent| parent < best)
 }
 
-// The certificate that an order which ends so is the outcome, as the line of an assertion file.
+// The certificate that an order with this end is the outcome, as the line of an assertion file.
 fn certificate(alloc: Global, contest: &Contest, standing: CandSet) -> Result<String, AllocError> {
     let claims = claims(alloc, contest)?;
     let suffixes = suffixes(alloc, contest, &claims, standing)?;
@@ -392,7 +392,7 @@ fn certificate(alloc: Global, contest: &Contest, standing: CandSet) -> Result<St
     Ok(text)
 }
 
-// Adds the claims that are the first of an end, each once.
+// Adds the claims that come first for some end, each once.
 fn add_needed(
     text: &mut String,
     contest: &Contest,
@@ -431,7 +431,7 @@ fn add_text(text: &mut String, contest: &Contest, claim: &Claim) -> Result<(), A
     write!(text, ",\"winner\":\"{winner}\"}}")
 }
 
-// Adds an id in quotes, after a comma but for the first.
+// Adds an id in quotes, with a comma in front unless it is the first.
 fn add_quoted(text: &mut String, is_first: bool, id: u32) -> Result<(), AllocError> {
     if is_first {
         return write!(text, "\"{id}\"");
@@ -450,7 +450,7 @@ fn add_members(text: &mut String, contest: &Contest, set: CandSet) -> Result<(),
     Ok(())
 }
 
-// Adds the order, which is held backwards.
+// Adds the order, which is stored backwards.
 fn add_order(text: &mut String, contest: &Contest, order: &Ranking) -> Result<(), AllocError> {
     let mut is_first = true;
     for c in order.candidates().iter().rev() {
@@ -460,7 +460,7 @@ fn add_order(text: &mut String, contest: &Contest, order: &Ranking) -> Result<()
     Ok(())
 }
 
-// Adds all that follows the assertions.
+// Adds everything that follows the assertions.
 fn add_outcome(
     text: &mut String,
     contest: &Contest,

@@ -1,8 +1,8 @@
-// Worked cases of the audit of a plurality contest, from its opening to its end, of a tie, and of what is refused on the way. Digests and
-// risks were worked out by a plain program, which shares no code with the suite.
+// Worked cases of the audit of a plurality contest, from its opening to its end, of a tie, and of what is refused along the way. The digests
+// and risks were worked out by a plain program, which shares no code with the suite.
 use crate::table::{BAD_WORDS, File};
 
-// The session of one card before its first round: no assertion file has its digest.
+// The session of one card before its first round. In place of an assertion file's digest it has that of no bytes.
 const OPENED: &str = "\
     {\"assertions\":\"e3b0c44298fc1c149afbf4c8996fb92427ae41e4649b934ca495991b7852b855\",\
     \"ballots\":\"b2461326ededb6d109bceb693f72e5d9b613d18452c4eed4772b701916c96bdf\",\"cards\":1,\"contest\":\"7\",\"gamma\":100,\
@@ -17,7 +17,7 @@ const UNCONFIRMED: &str = "\
     \"rounds\":[{\"counts\":[[0,0,4,0,0]],\"draws\":4,\"risks\":[88518543815313162]}],\"seed\":\"2024\",\"signed_off\":false,\
     \"version\":1}\n";
 
-// After a fifth it is.
+// After a fifth draw it is.
 const SIGNED: &str = "\
     {\"assertions\":\"e3b0c44298fc1c149afbf4c8996fb92427ae41e4649b934ca495991b7852b855\",\
     \"ballots\":\"b2461326ededb6d109bceb693f72e5d9b613d18452c4eed4772b701916c96bdf\",\"cards\":1,\"contest\":\"7\",\"gamma\":100,\
@@ -25,7 +25,7 @@ const SIGNED: &str = "\
     \"rounds\":[{\"counts\":[[0,0,4,0,0]],\"draws\":4,\"risks\":[88518543815313162]},{\"counts\":[[0,0,5,0,0]],\"draws\":5,\
     \"risks\":[48282842081079907]}],\"seed\":\"2024\",\"signed_off\":true,\"version\":1}\n";
 
-// After five at once it is, too.
+// After five draws at once it is, too.
 const SIGNED_AT_ONCE: &str = "\
     {\"assertions\":\"e3b0c44298fc1c149afbf4c8996fb92427ae41e4649b934ca495991b7852b855\",\
     \"ballots\":\"b2461326ededb6d109bceb693f72e5d9b613d18452c4eed4772b701916c96bdf\",\"cards\":1,\"contest\":\"7\",\"gamma\":100,\
@@ -40,7 +40,7 @@ const ROW1_OPENED: &str = "\
     \"limit\":50000,\"manifest\":\"fbbb65ee714b540622a537be22f4995ef5255032eae1a14a91cd86ce449550e7\",\"margins\":[1,2],\
     \"rounds\":[],\"seed\":\"2024\",\"signed_off\":false,\"version\":1}\n";
 
-/// The files of such an audit.
+/// The files of an audit of a plurality contest.
 pub const FILES: [File; 5] = [
     File {
         name: "plural.json",
@@ -54,12 +54,12 @@ pub const FILES: [File; 5] = [
         name: "plural_signed.json",
         text: SIGNED_AT_ONCE,
     },
-    // It has more cards than the manifest.
+    // The session has more cards than the manifest.
     File {
         name: "plural_five.json",
         text: FIVE_CARDS,
     },
-    // Its ballots have a tie.
+    // The session's ballots have a tie.
     File {
         name: "plural_tied.json",
         text: TIED,

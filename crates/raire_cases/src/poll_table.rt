@@ -1,5 +1,5 @@
-// Worked cases of polls, over the files of `table`, `audit_table` and `session_table`. Risks were worked out by a plain program, which shares
-// no code with the suite.
+// Worked cases of polls, over the files of `table`, `audit_table` and `session_table`. The risks were worked out by a plain program, which
+// shares no code with the suite.
 use crate::table::BAD_WORDS;
 
 /// The words of a call, its status, and its text.

@@ -1,5 +1,5 @@
-// Worked cases of the audit of one card, from its opening to its end, and of what is refused on the way. Digests, risks and
-// texts were worked out by a plain program (acceptance/plain_audit.py), which shares no code with the suite.
+// Worked cases of the audit of one card, from its opening to its end, and of what is refused along the way. The digests, risks and texts were
+// worked out by a plain program (acceptance/plain_audit.py), which shares no code with the suite.
 use crate::table::{BAD_WORDS, File};
 
 // The session of one card before its first round.
@@ -17,7 +17,7 @@ const UNCONFIRMED: &str = "\
     \"rounds\":[{\"counts\":[[0,0,4,0,0]],\"draws\":4,\"risks\":[88518543815313162]}],\"seed\":\"2024\",\"signed_off\":false,\
     \"version\":1}\n";
 
-// After a fifth it is.
+// After a fifth draw it is.
 const SIGNED: &str = "\
     {\"assertions\":\"ae97f9d20b8752ebe368d7fbc111d71683ac56e920c45c7b945baa7045d72b2e\",\
     \"ballots\":\"b2461326ededb6d109bceb693f72e5d9b613d18452c4eed4772b701916c96bdf\",\"cards\":1,\"contest\":\"7\",\"gamma\":100,\

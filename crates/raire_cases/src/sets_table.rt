@@ -1,8 +1,9 @@
-// Worked cases of calls with a number of sets, over the files of the other tables too. They were worked out by hand, and the trials by a
+// Worked cases of calls with a number of sets, also over the files of the other tables. They were worked out by hand, and the trials by a
 // plain program (acceptance/plain.py), which shares no code with the suite.
 use crate::table::{BAD_WORDS, File, PRINTED, TRIAL_7};
 
-/// The files of these cases: a contest of twenty candidates, no assertions about it, and one of twelve candidates who are nearly equal.
+/// The files of these cases: a contest of twenty candidates, an assertion file about it without assertions, and a contest of twelve candidates
+/// who are nearly equal.
 pub const FILES: [File; 3] = [
     File {
         name: "twenty.raire",
@@ -28,17 +29,17 @@ pub const FILES: [File; 3] = [
     },
 ];
 
-// More sets count than the two of the words, and more than the one.
+// More sets count than the words give, which is two sets here and one in the next text.
 const SPENT_AT_2: &str = "spent\nsets 2\norder 3,2,1\nmargin 2\n";
 
 const SPENT_AT_1: &str = "spent\nsets 1\n";
 
-// Of the 4,096 sets of the twelve 4,059 are reached below the best margin.
+// 4,059 of the 4,096 sets of the twelve candidates are reached below the best margin.
 const NEARLY_EQUAL: &str = "full count\norder 7,2,10,8,9,12,11,5,4,6,1,3\nmargin 1\nfloor 2\n";
 
-/// The lines, the statuses and the texts.
+/// The lines with their statuses and texts.
 pub const CASES: [(&str, u8, &str); 37] = [
-    // In row1.raire no set but {1} is reached below the best margin, and {1}, {3} and {1,3} come before the order.
+    // In row1.raire, {1} is the only set that is reached below the best margin, and {1}, {3} and {1,3} come before the order.
     ("search row1.raire --sets 3", 0, PRINTED),
     ("search row1.raire --sets=1048576", 0, PRINTED),
     ("search row1.raire --sets 3 --workers 1", 0, PRINTED),

@@ -1,18 +1,18 @@
-// The worked cases: the files, and what a call over them comes to. Certificates and rounds were worked out by hand or by a plain program
+// The worked cases: the files, and what a call over them comes to. The certificates and rounds were worked out by hand or by a plain program
 // (acceptance/plain.py), which shares no code with the suite.
 
 /// The ballots of row1.raire.
 pub const BALLOTS: &str =
     "1\nContest,1,3,1,2,3\n1,t_1,1\n1,t_2,1\n1,t_3,1\n1,t_4,1\n1,t_5,1\n1,t_6,2,3\n1,t_7,2,3\n1,t_8,2,3\n1,t_9,2,3\n1,t_10,3,2\n1,t_11,3,2\n1,t_12,3,2\n";
 
-/// The assertion file that a search prints of them.
+/// The assertion file that a search of these ballots prints.
 pub const PRINTED: &str = "\
     {\"assertions\":[{\"kind\":\"NEB\",\"loser\":\"3\",\"margin\":1,\"winner\":\"2\"},{\"kind\":\"NEN\",\"loser\":\"1\",\"margin\":2,\
     \"rest\":[\"1\",\"2\"],\"winner\":\"2\"},{\"kind\":\"NEN\",\"loser\":\"1\",\"margin\":2,\"rest\":[\"1\",\"3\"],\"winner\":\"3\"}],\
     \"candidates\":[\"1\",\"2\",\"3\"],\"contest\":\"1\",\"margin\":1,\"order\":[\"2\",\"1\",\"3\"],\"records\":12,\"version\":1,\
     \"winner\":\"2\"}\n";
 
-/// The assertion file that a search prints of none_for_two.raire.
+/// The assertion file that a search of none_for_two.raire prints.
 pub const NONE_FOR_TWO_PRINTED: &str = "\
     {\"assertions\":[{\"kind\":\"NEB\",\"loser\":\"2\",\"margin\":3,\"winner\":\"1\"},{\"kind\":\"NEB\",\"loser\":\"3\",\"margin\":3,\
     \"winner\":\"1\"}],\"candidates\":[\"1\",\"2\",\"3\"],\"contest\":\"1\",\"margin\":3,\"order\":[\"3\",\"1\",\"2\"],\"records\":3,\
@@ -20,9 +20,9 @@ pub const NONE_FOR_TWO_PRINTED: &str = "\
 
 /// A file of a case.
 pub struct File {
-    /// Its name, as the words of a call give it.
+    /// The file's name, as the words of a call give it.
     pub name: &'static str,
-    /// What it holds.
+    /// What the file holds.
     pub text: &'static str,
 }
 
@@ -164,7 +164,7 @@ pub const FILES: [File; 27] = [
     },
 ];
 
-/// What is said of words that are no line.
+/// What is printed for words that aren't a command line.
 pub const BAD_WORDS: &str = "raire: bad words\n";
 
 const FIVE_PRINTED: &str = "\
@@ -198,7 +198,7 @@ const SIX_PRINTED: &str = "\
     \"3\",\"4\",\"5\",\"6\"],\"contest\":\"6\",\"margin\":1,\"order\":[\"6\",\"5\",\"4\",\"3\",\"1\",\"2\"],\"records\":26,\"version\":1,\
     \"winner\":\"1\"}\n";
 
-/// What a trial prints of the number 7, with four candidates and thirty ballots.
+/// What a trial with the number 7, four candidates and thirty ballots prints.
 pub const TRIAL_7: &str =
     "number 7\ncandidates 4\nrecords 30\nwinner 1\nmargin 5\nassertions 3\norder 4,3,1,2\n";
 
@@ -357,7 +357,7 @@ pub const CASES: [(&str, u8, &str); 71] = [
     ("trial", 1, BAD_WORDS),
 ];
 
-/// The words of a call, the calls of the desk and the writes of both sinks that fail, its status, and its line on `err`.
+/// The words of a call, the desk calls and the writes of both sinks that fail, its status, and its line on `err`.
 pub const FAILING: [(&str, &[u32], &[u32], u8, &str); 6] = [
     (
         "search five.raire",

@@ -1,5 +1,5 @@
-// The worked cases of ties, of a budget that leaves open whether one matters, and of as many candidates as there may be, over the files
-// of `table`.
+// The worked cases of ties, of a budget that leaves open whether a tie matters, and of the maximum number of candidates, over the files of
+// `table`.
 
 use crate::table::NONE_FOR_TWO_PRINTED;
 

@@ -6,13 +6,13 @@ use desk::Gate;
 use std::sync::atomic::{AtomicU64, Ordering};
 use std::test::Fail;
 
-// Turns for which a worker waits for another: enough for it to begin on a machine that is busy.
+// The number of turns for which a worker waits for another, enough for that one to begin on a busy machine.
 const PATIENCE: u32 = 4_000_000_000;
 
-// Turns after which nobody is waited for.
+// The number of turns after which a worker stops waiting.
 const HASTE: u32 = 1_000;
 
-/// Holds each of two workers up until the other came, for this many turns; in an audit of all contests, each of two contests.
+/// Makes each of two workers wait until the other arrives, for this many turns. In an audit of all contests, it does so for two contests.
 #[derive(Drop)]
 struct Both {
     turns: u32,

@@ -1,14 +1,14 @@
-// Trims of what a search printed of one contest: a row a call, each over the ballots and that file, or that file changed.
+// Trims of what a search of one contest printed. Each row is a call over the ballots and that file, or that file with a change.
 use crate::cases::{hold, ran_over};
 use crate::table::{BALLOTS, PRINTED};
 use std::test::Fail;
 
-// The file without the assertion that can go.
+// The file without the assertion that can be removed.
 const TRIMMED: &str = "\
 {\"assertions\":[{\"kind\":\"NEB\",\"loser\":\"3\",\"margin\":1,\"winner\":\"2\"},{\"kind\":\"NEN\",\"loser\":\"1\",\"margin\":2,\"rest\":[\"1\",\"2\"],\
 \"winner\":\"2\"}],\"candidates\":[\"1\",\"2\",\"3\"],\"contest\":\"1\",\"margin\":1,\"order\":[\"2\",\"1\",\"3\"],\"records\":12,\"version\":1,\"winner\":\"2\"}\n";
 
-// It says that another candidate has won.
+// The file says that another candidate won.
 const OTHER_WINNER: &str = "\
 {\"assertions\":[{\"kind\":\"NEB\",\"loser\":\"3\",\"margin\":1,\"winner\":\"2\"}],\"candidates\":[\"1\",\"2\",\"3\"],\"contest\":\"1\",\"margin\":1,\
 \"order\":[\"2\",\"1\",\"3\"],\"records\":12,\"version\":1,\"winner\":\"1\"}\n";

@@ -1,4 +1,4 @@
-// A session, with how often it was tried to go on.
+// A session, with the number of tries to continue it.
 ghost use Rattle.std.specs.Prelude.{◌≡◌, ◌+◌, ◌≤◌, ◌<◌, map, length};
 ghost use Rattle.irv_base.specs.declared.limits.TheConstants.{MOST_DRAWS};
 ghost use Rattle.raire_cases.specs.Going.{GoesOn};
@@ -8,7 +8,7 @@ use audit_session::{AdvanceFault, SeenCards, Session, advance};
 use manifest::Linked;
 use std::alloc::Global;
 
-/// A session, with how often it was tried to go on. Only a try counts.
+/// A session, with the number of tries to continue it. Only a try counts.
 #[derive(Drop)]
 pub struct Trying {
     session: Session,
@@ -16,7 +16,7 @@ pub struct Trying {
 }
 
 impl Trying {
-    /// The session, which hasn't been tried.
+    /// Wraps a session that hasn't been tried.
     pub fn new(session: Session) -> Trying
         ensures session { result.session ≡ session }
         ensures none { result.tries ≡ 0 }
@@ -24,7 +24,7 @@ impl Trying {
         Trying { session, tries: 0 }
     }
 
-    /// Tries once to go on with the session, up to this number of draws in all: a call of `advance`.
+    /// Tries once to continue the session up to this number of draws in all, with a call of `advance`.
     pub fn try_once(
         &mut self,
         alloc: Global,

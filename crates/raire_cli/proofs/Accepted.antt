@@ -1,4 +1,4 @@
--- Status 0 of a check comes with an assertion file that holds of the ballots.
+-- Status 0 of a check comes with an assertion file that holds for the ballots.
 use Rattle.std.proofs.Common.{◌≡◌, ℕ, List, Some, Ok, Err, refl, subst}
 use Rattle.desk.specs.Desk.{File}
 use Rattle.ballots.specs.Ballots.{BallotFile}
@@ -42,7 +42,7 @@ yes_is : (file : Content) (text : List ℕ) → verdict_on file (Ok Accepted) �
 yes_is file text told = cc
 
 module _ (words : List (List ℕ)) (files : List File) (asks : Asks Check words) (text : List ℕ) where
-  -- the file of the words holds, and this is what is printed about it
+  -- the file that the words name holds, and this is what is printed about it
   abbrev Held : Type 0
   Held = (file : Content) × HoldsAsked words files file × (text ≡ yes_text file)
 

@@ -1,4 +1,4 @@
--- More sets count of claims exactly if their adoption is spent, and none is if its budget is enough.
+-- More sets count for claims exactly when their adoption runs out of budget. No adoption runs out if its budget is large enough.
 use Rattle.std.proofs.Common.{◌≡◌, ◌∙◌, ℕ, ◌<◌, ◌==◌, Bool, true, false, nat_lt, if◌then◌else◌, List, Option, None, Some, Result, Ok, Err, refl, sym, ap, subst, arith, eqb-true, eq-eqb, lt-ltb, ltb-true}
 use Rattle.desk.specs.Desk.{File}
 use Rattle.irv_base.specs.Names.{Id}

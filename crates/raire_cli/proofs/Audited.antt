@@ -1,4 +1,4 @@
--- Status 0 and 10 of an audit come with the session that its files make.
+-- Statuses 0 and 10 of an audit come with the session that its files make.
 use Rattle.std.proofs.Common.{◌≡◌, ◌⊎◌, inl, inr, ℕ, List, Contains, length, Bool, true, false, Some, Result, Ok, refl, sym, ap, subst, ◌∙◌}
 use Rattle.std.proofs.lemmas.List.{length-map}
 use Rattle.sha2.specs.Sha256.{sha256}
@@ -57,7 +57,7 @@ IsKind kind = (kind ≡ Done) ⊎ (kind ≡ Unconfirmed)
 
 -- ---- the assertion file was accepted
 
--- a check alone answers `yes`, which is no session
+-- a check by itself answers `yes`, which isn't a session
 pub not_checked : (budget : Budget) (ballots : BallotFile) (file : FileContent) (kind : AnswerKind) (text : List ℕ) → IsKind kind →
     is_accepted budget ballots file ≡ false → Checks budget ballots file (Answered kind text) → ⊥
 not_checked budget ballots file kind text (inl done) out (answer, found, is) =
@@ -76,11 +76,11 @@ accepted_on readings budget ballots file next kind text of comes = by (is_accept
   by true accepted comes = (accepted, comes)
   by false out comes = absurd (not_checked budget ballots file kind text of out comes)
 
--- ---- the session goes on
+-- ---- the session continues
 
 module _ (inputs : RoundInputs Basis) (bytes : List ℕ) (read : session_of bytes ≡ Some inputs.session)
     (facts : HasFacts inputs.session (length (cards_of inputs.basis.batches)) inputs.basis.file.contest (margins_of inputs.basis.file)) where
-  -- the session fits the claims of the file and what is recorded of the cards
+  -- the session fits the claims of the file and what is recorded for the cards
   pub fitting : Fitting inputs.session (recorded inputs) (values_of inputs.basis.file) (claims inputs)
   fitting = record {
     sound = (read_session_is_sound bytes inputs.session read).0;
@@ -100,7 +100,7 @@ module _ (task : AuditTask) where
       let (digest, read) = unless_ok (other_digest task.assertions session.digests.assertions bytes) _ file is in
       (same_digest task.assertions session.digests.assertions bytes digest, told_ok (refused_assertions task.assertions) (assertion_file_of bytes) file read)
 
--- ---- the files, one after the other
+-- ---- the files, in order
 
 module _ (words : List (List ℕ)) (files : List File) (asks : Asks Audit words) (kind : AnswerKind) (text : List ℕ) (of : IsKind kind) where
   abbrev readings : Readings
@@ -112,7 +112,7 @@ module _ (words : List (List ℕ)) (files : List File) (asks : Asks Audit words)
   abbrev task : AuditTask
   task = asks.task
 
-  -- the session of the words goes on, and this prints it
+  -- the session that the words name continues, and this prints it
   abbrev Gone : Type 0
   Gone = (next : Content) × GoesOn words files next × (text ≡ session_text next) × (kind ≡ kind_of next.session)
 

@@ -20,7 +20,7 @@ nothing_begun files served status nine = record {
   within = λ other sound. refl;
 }
 
--- the words are no line
+-- the words aren't a line
 pub no_line_come : (readings : Readings) (served : Served) (command : Option Command) → command ≡ None → HasCome readings served served (asked_by command) bad_words
 no_line_come readings served command none =
     subst (λ c. HasCome readings served served (asked_by c) bad_words) (sym none) (record { files = 0; begun = refl; is_due = inl (refl, refl) })

@@ -1,4 +1,4 @@
--- The clauses of `run`, each from how the call went.
+-- The clauses of `run`. Each follows from how the call went.
 use Rattle.std.proofs.Common.{◌≡◌, ◌⊎◌, inl, inr, ⊎_elim, ℕ, ◌≤◌, ◌-◌, ◌^◌, List, Option, None, Some, IfSome, false, refl, sym, ap, subst, ◌∙◌, arith}
 use Rattle.std.specs.Prelude.{◌≢◌, is_some}
 use Rattle.std.proofs.lemmas.Bool.{cases_eq}
@@ -76,12 +76,12 @@ use Rattle.raire_cli.proofs.Rounds.{has_rounds, never_stopped}
 use Rattle.raire_cli.proofs.SetsSpent.{closed_by, more_spent, never_by_sets, spent_more}
 use Rattle.raire_cli.proofs.Undecided.{has_tie, never_spent_there, tells_tie}
 
--- how a call went by what was due, and by what the sinks took of it
+-- how a call went, from what was due and what the sinks took of it
 pub story_of : {asked : Asked} {held : Option (List File)} {failed : Type 0} {before after : Served} {status : ℕ} {out err : Writing} {due : Outcome}
     → HasCome (ByDesk held failed) before after asked due → IsWritten due status out err → Story asked held failed before after status out err
 story_of {asked} {held} {failed} {before} {after} {status} {out} {err} {due} come written = record { due = due; come = come; written = written }
 
--- a trial goes so whatever the desk holds
+-- a trial goes this way whatever the desk holds
 known_story : {held : Option (List File)} {failed : Type 0} {before after : Served} {status : ℕ} {out err : Writing} (command : Option Command) →
     Story (asked_by command) held failed before after status out err → Story (asked_by command) (known_by command held) failed before after status out err
 known_story (Some (Trial task)) story = record {
@@ -99,7 +99,7 @@ if_some : {A : Type 0} (o : Option A) (P Q : A → Type 0) → ((x : A) → P x 
 if_some None P Q f p = tt
 if_some (Some x) P Q f p = f x p
 
--- words are no line exactly if they ask for nothing
+-- words aren't a line exactly when they ask for nothing
 nothing_some : (command : Option Command) → is_some command ≡ false → IsNothing (asked_by command)
 nothing_some None none = tt
 nothing_some (Some command) none = absurd (cc none)
@@ -263,7 +263,7 @@ module _ (words : List (List ℕ)) {held : Option (List File)} {failed : Type 0}
           )
     ]
 
-  -- the same of a poll with a look after each draw
+  -- the same for a poll with a look after each draw
   polled_each-of : (files : List File) (kind : AnswerKind) → IsKind kind → Asks PollEach words →
       (text : List ℕ) × ComesTo (AsHeld files) (asked words) (Answered kind text) × Took out text →
       (of : IsEachPollOf words files) × Took out (told_of_each of) × (kind ≡ confirmed_kind (is_confirmed_by_each of))
@@ -338,7 +338,7 @@ module _ (words : List (List ℕ)) {held : Option (List File)} {failed : Type 0}
 
   -- ---- all contests of a file
 
-  -- an audit of them that ends with an answer of this kind
+  -- an audit of all contests that ends with an answer of this kind
   contests-of : (files : List File) (kind : AnswerKind) → Asks Contests words →
       (text : List ℕ) × ComesTo (AsHeld files) (asked words) (Answered kind text) × Took out text →
       (audit : AuditsContests words files) × Took out (blocks_of audit) × (kind ≡ confirmed_kind (all_signed audit.ends))
@@ -418,7 +418,7 @@ module _ (words : List (List ℕ)) {held : Option (List File)} {failed : Type 0}
       (subst (λ c. ComesTo (AsHeld files) (asked_by c) (Answered Spent text)) line comes))
       (answered_with story Spent)
 
-  -- ---- a call that can't be spent
+  -- ---- a call that can't run out of budget
 
   abbrev IsOfOne : Type 0
   IsOfOne = of_contests (command_of words) ≡ false
@@ -446,7 +446,7 @@ module _ (words : List (List ℕ)) {held : Option (List File)} {failed : Type 0}
                 ⊎_elim (λ five. inr (inl five)) (λ nine. inr (inr nine)) (settled files (not_spent words files ok) quiet (spent one) ((full one).1 count))
           ]
 
-  -- the same of a search for the fewest NENs, by what it came to
+  -- the same for a search for the fewest NENs, by what it came to
   pub complete_fewest_clause : IsFewestComplete held words failed status out err
   complete_fewest_clause = by held (answered_clause story) where
     by : (h : Option (List File)) → IsAnswered (asked words) h failed status out err → IsFewestComplete h words failed status out err
@@ -501,7 +501,7 @@ module _ (words : List (List ℕ)) {held : Option (List File)} {failed : Type 0}
         let one : IsOfOne = ap of_contests ok.asks.asked in
         settled files (never_stopped words files ok) quiet (spent one) ((done one).1 (has_rounds words files ok))
 
-  -- ---- a trial that can't be spent
+  -- ---- a trial that can't run out of budget
 
   pub complete_trial_clause : IsTrialComplete words failed status out err
   complete_trial_clause ok quiet = elim story.written [

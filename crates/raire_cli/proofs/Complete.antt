@@ -1,4 +1,4 @@
--- A search or a trial whose budget is large enough isn't spent.
+-- A search or a trial doesn't run out of budget if its budget is large enough.
 use Rattle.std.proofs.Common.{◌≡◌, ◌⊎◌, inl, inr, ◌≤◌, ◌<◌, ℕ, List, refl, sym, ◌∙◌, ap, subst, arith}
 use Rattle.std.proofs.lemmas.Bool.Decides.{leb_tells}
 use Rattle.desk.specs.Desk.{File}
@@ -34,7 +34,7 @@ use Rattle.raire_cli.proofs.Said.{only, saying}
 
 -- ---- a budget that suffices
 
--- it isn't spent
+-- it doesn't run out
 suffices_spent : (budget : Budget) (ballots : BallotFile) (winner : ℕ) (won : IsWon ballots winner) (text : List ℕ) → Suffices budget ballots won.order winner →
     HasSpent budget ballots text → ⊥
 suffices_spent (Nodes nodes) ballots winner won text suffices spent =
@@ -88,7 +88,7 @@ module _ (words : List (List ℕ)) (files : List File) (ok : IsSearchable words 
       (saying files task.ballots (refused_ballots task.ballots) (λ bytes. ballots_of bytes task.contest) (searching words files ok.asks.search)
       ok.asks.bytes ok.asks.held ok.is_short ok.ballots ok.asks.accepted v (searched_with task ok.ballots v ok.asks.cards finds))
 
-  -- its budget isn't spent
+  -- its budget doesn't run out
   pub not_spent : HasAnswer (asked words) files Spent → ⊥
   not_spent (text, comes) =
       suffices_spent task.budget ok.ballots ok.winner ok.asks.won text ok.budget
@@ -112,7 +112,7 @@ module _ (words : List (List ℕ)) (files : List File) (ok : IsSearchable words 
 
 -- ---- a trial
 
--- a budget that suffices for each winner isn't spent
+-- a budget that suffices for each winner doesn't run out
 each_suffices : (budget : Budget) (ballots : BallotFile) (text : List ℕ) →
     ((winner : ℕ) (won : IsWon ballots winner) → Suffices budget ballots won.order winner) → HasSpent budget ballots text → ⊥
 each_suffices (Nodes nodes) ballots text all spent =

@@ -61,7 +61,7 @@ hardest_order n records winner order margin below two is printed =
           omega (arith, le, ap (low n records) same, hard, is);
     }
 
--- what a file has of the certificate
+-- what a file has from the certificate
 record Certified (n : ℕ) (records : List (List ℕ)) (winner : ℕ) (file : Content) : Type 0 where
   pub margin : file.margin ≡ best_margin n winner (low n records)
   pub order : certificate_order n winner (low n records) (best_margin n winner (low n records)) ≡ file.order
@@ -112,7 +112,7 @@ certificate-confirms ballots file two c =
     (certificate-positive ballots file two c)
     (record { margin = refl; order = c.least; claims = refl }))
 
--- each order that elects another candidate is refuted by an assertion of the certificate
+-- an assertion of the certificate refutes each order that elects another candidate
 pub confirms-least : (n : ℕ) (records : List (List ℕ)) (winner : ℕ) (file : Content) → Confirms n records winner file → IsLeast n records winner file.margin
 confirms-least n records winner file c order alternative =
     let (claim, m, r) = c.cover order alternative in

@@ -1,4 +1,4 @@
--- Status 0 and 10 of an audit of all contests come with the end of each contest.
+-- Statuses 0 and 10 of an audit of all contests come with the end of each contest.
 use Rattle.std.proofs.Common.{◌≡◌, inl, inr, ℕ, List, subst}
 use Rattle.desk.specs.Desk.{File}
 use Rattle.ballots.specs.Ballots.{BallotFile}

@@ -1,4 +1,4 @@
--- A refusal of an audit of all contests comes whatever is spent, but that a drawn card has no record.
+-- An audit of all contests is refused whatever budget runs out, unless the refusal is that a drawn card has no record.
 use Rattle.std.proofs.Common.{◌≡◌, ◌⊎◌, inl, inr, ⊎_elim, ℕ, List, Option, None, Some, IfSome, Result, Ok, Err, codes, sym, ap, subst, ◌∙◌}
 use Rattle.std.specs.Prelude.{◌≢◌}
 use Rattle.desk.specs.Desk.{File, held_bytes}
@@ -41,7 +41,7 @@ module _ (files : List File) where
     abbrev IsAlone : Script → Type 0
     IsAlone script = Concludes (AsHeld files) script refused → May (AsHeld files) script due → due ≡ outcome refused
 
-    -- what a file is refused for is one
+    -- a file is refused for one reason only
     judged_alone : {A Why : Type 0} (words : Why → Verdict) (judged : Result A Why) (next : A → Script) → ((value : A) → IsAlone (next value)) →
         IsAlone (go_on (told words judged) next)
     judged_alone words (Ok value) next each = each value
@@ -51,7 +51,7 @@ module _ (files : List File) where
     read_alone file next each (bytes, there, rest) may = each bytes rest (reads file bytes next there due may)
 
     module _ (task : ContestsTask) where
-      -- a ballot without a card comes first; otherwise only a drawn card is without its record
+      -- a ballot without a card comes first; otherwise the only thing missing is the record of a drawn card
       audit_alone : (list : List BallotFile) (batches : Batches) (seen : List (List Entry)) (v : Verdict) → Audits task list batches seen refused →
           Audits task list batches seen v → v ≡ refused
       audit_alone list batches seen v (inl unplaced) (inl other) =

@@ -1,4 +1,4 @@
--- A plurality contest that was counted: it has an outcome, or a tie.
+-- A plurality contest that was counted has an outcome or a tie.
 use Rattle.std.proofs.Common.{◌≡◌, inl, inr, ℕ, List, length, Option, Some, Result, Ok, Err, refl, sym, ap, subst, ◌∙◌, arith}
 use Rattle.std.proofs.lemmas.List.{length-map}
 use Rattle.irv_base.specs.Names.{Id}
@@ -31,7 +31,7 @@ use Rattle.raire_cli.proofs.NextRounds.{Fitting}
 
 -- ---- the outcome
 
--- who has won has strictly more first preferences than each other
+-- the winner has strictly more first preferences than each other candidate
 pub wins_of : (ballots : BallotFile) (outcome : Outcome) → outcome_in ballots ≡ Ok outcome →
     WinsPlurality (length ballots.candidates) ballots.rankings outcome.winner
 wins_of ballots outcome is =
@@ -39,7 +39,7 @@ wins_of ballots outcome is =
     let (winner, alone, same) = from_won n ballots.rankings (leaders n ballots.rankings) outcome is in
     subst (λ (o : Outcome). WinsPlurality n ballots.rankings o.winner) (sym same) (alone-wins n ballots.rankings winner alone)
 
--- those of a tie share the greatest number
+-- the candidates of a tie share the greatest number
 pub tied_in : (bytes : List ℕ) (contest : Option Id) (ballots : BallotFile) (tie : Tie) → ballots_of bytes contest ≡ Ok ballots → outcome_in ballots ≡ Err tie →
     AreTied (length ballots.candidates) ballots.rankings tie
 tied_in bytes contest ballots tie read is =
@@ -49,7 +49,7 @@ tied_in bytes contest ballots tie read is =
 module _ (inputs : RoundInputs Counted) (bytes : List ℕ) (read : session_of bytes ≡ Some inputs.session)
     (counted : outcome_in inputs.basis.ballots ≡ Ok inputs.basis.outcome)
     (facts : HasFacts inputs.session (length (cards_of inputs.basis.batches)) inputs.basis.ballots.contest inputs.basis.outcome.margins) where
-  -- the session fits the claims of the outcome and what is recorded of the cards
+  -- the session fits the claims of the outcome and what is recorded for the cards
   pub plural_fitting : Fitting inputs.session (recorded inputs) (values_of inputs.basis.outcome) (claims inputs)
   plural_fitting =
       let outcome = inputs.basis.outcome in
@@ -69,7 +69,7 @@ module _ (readings : Readings) (ballots : BallotFile) (next : Outcome → Script
   abbrev Counts : AnswerKind → Result Outcome Tie → Type 0
   Counts kind counted = Concludes readings (go_on (told (tied ballots) counted) next) (Answered kind text)
 
-  -- if it answers with a session, it goes on with the outcome
+  -- if it answers with a session, it continues with the outcome
   pub won_on : (kind : AnswerKind) → IsKind kind → Concludes readings (if_won ballots next) (Answered kind text) →
       (outcome : Outcome) × (outcome_in ballots ≡ Ok outcome) × Concludes readings (next outcome) (Answered kind text)
   won_on kind of comes = by (outcome_in ballots) refl of comes where
@@ -79,7 +79,7 @@ module _ (readings : Readings) (ballots : BallotFile) (next : Outcome → Script
     by (Err tie) is (inl done) comes = absurd (cc (comes, done))
     by (Err tie) is (inr unconfirmed) comes = absurd (cc (comes, unconfirmed))
 
-  -- a tie that it prints is that of the ballots, if what follows prints none
+  -- a tie that it prints is the tie of the ballots, if what follows prints no tie
   pub tied_on : ((outcome : Outcome) → Concludes readings (next outcome) (Answered TieKind text) → ⊥) →
       Concludes readings (if_won ballots next) (Answered TieKind text) →
       (tie : Tie) × (outcome_in ballots ≡ Err tie) × (text ≡ tie_text ballots.candidates 1 tie.tied tie.tally)

@@ -1,4 +1,4 @@
--- What is known of every command: a row each.
+-- What is known about every command, with a row for each.
 use Rattle.std.proofs.Common.{◌≡◌, ◌⊎◌, inl, inr, ℕ, List, Bool, true, false, Option, Some, None, refl, sym, ap, subst}
 use Rattle.std.proofs.lemmas.Bool.{false≢true}
 use Rattle.cli_base.specs.Outcome.{Outcome, Answered}
@@ -97,7 +97,7 @@ trials_agree task = by task.budget refl where
   by (Nodes nodes) is = tried.agrees task
   by (Sets sets) is = trial_agrees task sets is
 
--- a row a command
+-- a row for each command
 known : (command : Command) → IsKnown (is_of_contests command) (is_open command) (has_choice command) (kinds_of command) (script_of command)
 known (Search task) = record { agree = searches_agree task; are = searches.kinds_are task }
 known (SearchFewest task) = record { agree = searches_fewest.agrees task; are = searches_fewest.kinds_are task }
@@ -132,7 +132,7 @@ in_status false false d e same = inl (same_status d e same)
 agrees_one : (command : Command) → is_of_contests command ≡ false → Agree (SameBy false (is_open command) (has_choice command)) (script_of command)
 agrees_one command one = subst (λ b. Agree (SameBy b (is_open command) (has_choice command)) (script_of command)) one (known command).agree
 
--- A budget alone leaves open with which status a command on one contest ends.
+-- Only a budget leaves open with which status a command on one contest ends.
 agrees : (command : Command) → is_of_contests command ≡ false → Agree SameStatusButBudget (script_of command)
 agrees command one =
     agree-weaker (SameBy false (is_open command) (has_choice command)) SameStatusButBudget (in_status (is_open command) (has_choice command))
@@ -142,7 +142,7 @@ pub agrees_by : (command : Option Command) → of_contests command ≡ false →
 agrees_by None one = tt
 agrees_by (Some command) one = agrees command one
 
--- And what it writes, unless it has a choice.
+-- Only a budget leaves open what it writes, unless it has a choice.
 by_budget : (may_be_open : Bool) (script : Script) → Agree (SameBy false may_be_open false) script → Agree SameButBudget script
 by_budget true script agree = agree
 by_budget false script agree = agree-weaker Same SameButBudget (λ d e same. inl same) script agree
@@ -152,11 +152,11 @@ agrees_in_full command one none =
     by_budget (is_open command) (script_of command)
     (subst (λ choice. Agree (SameBy false (is_open command) choice) (script_of command)) none (agrees_one command one))
 
--- and the budget of some contest an audit of all of them.
+-- Only the budget of some contest leaves an audit of all contests open.
 pub contests_agree : (task : ContestsTask) → AgreeOn SameButContests (asked_by (Some (Contests task)))
 contests_agree task = contest_audits.agrees task
 
--- Those that no budget leaves open come to one end.
+-- Commands that no budget leaves open come to one end.
 closed-one : (command : Command) → is_open command ≡ false → is_of_contests command ≡ false
 closed-one (Contests task) closed = absurd (false≢true (sym closed))
 closed-one _ closed = refl
@@ -183,12 +183,12 @@ never : (readings : Readings) (kind : AnswerKind) (text : List ℕ) (command : C
 never readings kind text command none comes =
     not_among (kinds_of command) kind none (of_kind (kinds_of command) readings (script_of command) (Answered kind text) (known command).are comes)
 
--- a command whose kinds have no tie prints none
+-- a command whose kinds have no tie prints no tie
 pub tells_no_tie : (readings : Readings) (text : List ℕ) (command : Command) → is_among (kinds_of command) Tie ≡ false →
     Concludes readings (script_of command) (Answered Tie text) → ⊥
 tells_no_tie readings text command none comes = never readings Tie text command none comes
 
--- A full count is called for by a search alone.
+-- Only a search calls for a full count.
 pub counts_in_full : (words : List (List ℕ)) (readings : Readings) (text : List ℕ) (command : Option Command) → command_of words ≡ command →
     ComesTo readings (asked_by command) (Answered FullCount text) → Asks Search words ⊎ Asks SearchFewest words
 counts_in_full words readings text None is comes = absurd comes

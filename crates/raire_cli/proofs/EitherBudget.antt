@@ -1,4 +1,4 @@
--- Searches with two budgets come to one end, but for a budget that is spent; and searches and trials by sets come to one end.
+-- Searches with two budgets come to one end unless a budget runs out. Searches and trials by sets come to one end.
 use Rattle.std.proofs.Common.{◌≡◌, ◌⊎◌, inl, inr, ℕ, ◌<◌, ◌≤◌, Bool, true, false, List, Option, MatchBool, refl, sym, ap, subst, arith, ◌∙◌}
 use Rattle.assertions.specs.Hardness.{first_bound, start_order}
 use Rattle.ballots.specs.Ballots.{BallotFile}
@@ -78,7 +78,7 @@ module _ (some more : Budget) (least : ℕ) (plan : Option PlanTerms) (ballots :
   found-either v w (inr (inr (inr (text, a, i)))) (inr (inr (inr (other, b, j)))) =
       inl (ap outcome (i ∙ ap (Answered FullCount) (full-one text other a b) ∙ sym j))
 
--- the ballots are refused with either
+-- the ballots are refused with either budget
 pub searched-either : (task : SearchTask) (some more : Budget) (few many : ℕ) (ballots : BallotFile) (v w : Verdict) →
     Searches (record task { budget = some; workers = few }) ballots v → Searches (record task { budget = more; workers = many }) ballots w →
     SameButBudget (outcome v) (outcome w)
@@ -99,7 +99,7 @@ module _ (sets : ℕ) (ballots : BallotFile) where
       a.is.hardness ∙ ap (first_bound (candidate_count ballots) ballots.rankings) tabulated ∙ sym b.is.hardness in
       a.shown ∙ (λ i. spent_sets_text ballots.candidates sets (order i) (margin i)) ∙ sym b.shown
 
-  -- a search that ends with status 4 is spent
+  -- a search that ends with status 4 has run out of budget
   module _ (least : ℕ) (plan : Option PlanTerms) where
     is_spent : (v : Verdict) → Finds (Sets sets) least plan ballots v → (outcome v).status ≡ 4 → One (HasSpent (Sets sets) ballots) Spent v
     is_spent v (inl (text, a, i)) four = let e : 0 ≡ 4 = sym (ap (λ v. (outcome v).status) i) ∙ four in absurd (cc e)
@@ -107,7 +107,7 @@ module _ (sets : ℕ) (ballots : BallotFile) where
     is_spent v (inr (inr (inl spent))) four = spent
     is_spent v (inr (inr (inr (text, a, i)))) four = let e : 5 ≡ 4 = sym (ap (λ v. (outcome v).status) i) ∙ four in absurd (cc e)
 
-    -- and then so is another search
+    -- and then another search has too
     with-spent : (v w : Verdict) → One (HasSpent (Sets sets) ballots) Spent v → Finds (Sets sets) least plan ballots w → outcome v ≡ outcome w
     with-spent v w (text, has, is) found =
         let exactly = spent_by_sets_exactly sets least plan ballots has.is.winner has.is.won in
@@ -147,7 +147,7 @@ module _ (task : TrialTask) (sets : ℕ) (is : task.budget ≡ Sets sets) where
   tried_spent v (inr (inl (text, a, i))) four = let e : 3 ≡ 4 = sym (ap (λ v. (outcome v).status) i) ∙ four in absurd (cc e)
   tried_spent v (inr (inr (text, a, i))) four = (text, subst (λ budget. HasSpent budget contest text) is a, i)
 
-  -- more sets are needed than there are, and the start order doesn't decide: then it is spent
+  -- if more sets are needed than there are and the start order doesn't decide, the trial runs out of budget
   pub spent_where_more : (winner : ℕ) (won : IsWon contest winner) → 1 ≤ first_bound (candidate_count contest) contest.rankings won.order →
       sets < sets_of contest winner → (v : Verdict) → Tries task v → One (HasSpent (Sets sets) contest) Spent v
   spent_where_more winner won some above v (inl (text, a, i)) =

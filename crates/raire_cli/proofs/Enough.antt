@@ -1,4 +1,4 @@
--- A command that judges an assertion file isn't spent if its budget is enough.
+-- A command that judges an assertion file doesn't run out of budget if its budget is large enough.
 use Rattle.std.proofs.Common.{◌≡◌, ℕ, ◌≤◌, ◌-◌, ◌*◌, List, length, Bool, true, false, Option, None, Some, Result, Ok, Err, MatchBool, map, refl, sym, ap, subst, arith}
 use Rattle.std.specs.Prelude.{option_map, unwrap_or}
 use Rattle.std.specs.Option.{option_or}
@@ -120,13 +120,13 @@ trims-never budget ballots file text sound enough (Err (SpentAt last), found, is
 trims-never budget ballots file text sound enough (Err (SpentSets sets), found, is) = checks-never budget ballots file text sound enough (Err (SpentSets sets), found, is)
 trims-never budget ballots file text sound enough (Err Memory, found, is) = checks-never budget ballots file text sound enough (Err Memory, found, is)
 
--- an answer that says whether all is confirmed is never spent
+-- an answer that says whether everything is confirmed never runs out of budget
 told-never : (yes : Bool) → Spent ≡ confirmed_kind yes → ⊥
 told-never true is = cc is
 told-never false is = cc is
 
 module _ (files : List File) (text : List ℕ) where
-  -- what is read comes to no budget that is spent
+  -- what is read never makes a budget run out
   abbrev Never : Script → Type 0
   Never script = Concludes (AsHeld files) script (Answered Spent text) → ⊥
 
@@ -134,7 +134,7 @@ module _ (files : List File) (text : List ℕ) where
       Never (go_on judged next)
   after_value judged next only each comes = let (value, is, on) = value_of (AsHeld files) judged next Spent text only comes in each value is on
 
-  -- ---- a round, once its assertion file was accepted
+  -- ---- a round, after its assertion file was accepted
 
   next-never : (judged : Result Content Verdict) → OnlyRefuses judged → Answered Spent text ≡ verdict_of judged → ⊥
   next-never (Ok next) only is = told-never (is_signed_off next.session) (cc is)
@@ -150,14 +150,14 @@ module _ (files : List File) (text : List ℕ) where
       seen.rest
 
 module _ (files : List File) (judging : Judging) (enough : AreEnough files judging) (text : List ℕ) where
-  -- the budget of a command that judges the assertion file is enough for what that says
+  -- the budget of a command that judges the assertion file is enough for what the file says
   few_there : (assertions : List ℕ) (budget : Budget) → assertions ≡ judging.assertions → budget ≡ judging.budget → (bytes : List ℕ) (file : FileContent) →
       AsHeld files assertions (Bytes bytes) → assertion_file_of bytes ≡ Ok file → IsEnoughFor (candidate_count file) budget
   few_there assertions budget name same bytes file there is =
       let its : AsHeld files judging.assertions (Bytes bytes) = subst (λ n. AsHeld files n (Bytes bytes)) name there in
       subst (IsEnoughFor (candidate_count file)) (sym same) (enough bytes file (held_whole (held_bytes judging.assertions files) bytes its) is)
 
-  -- what is read of a file is gone on with
+  -- the command continues with what is read from a file
   abbrev ReadNever : {A Why : Type 0} → List ℕ → (Why → Verdict) → (List ℕ → Result A Why) → (List ℕ → A → Script) → Type 0
   ReadNever {A} name words read next =
       ((bytes : List ℕ) (value : A) → AsHeld files name (Bytes bytes) → read bytes ≡ Ok value → Never files text (next bytes value)) →

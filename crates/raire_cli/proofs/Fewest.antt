@@ -1,5 +1,5 @@
--- Status 0 of a search for the fewest NENs comes with a file that confirms the winner with them, and status 5 with reason for a full count. Within
--- its budget it ends so.
+-- Status 0 of a search for the fewest NENs comes with a file that confirms the winner with the fewest NENs, and status 5 with a reason for
+-- a full count. Within its budget the search ends in one of these two ways.
 use Rattle.std.proofs.Common.{◌≡◌, ◌⊎◌, inl, inr, ℕ, ◌<◌, ◌≤◌, ◌-◌, ◌^◌, ◌&&◌, ◌==◌, true, false, if◌then◌else◌, nat_le, length, map, List, [], None, Some, Ok, All, Contains, refl, sym, ap, ap₂, subst, arith, eq-eqb, eqb-true, le-leb, ◌∙◌}
 use Rattle.std.specs.Prelude.{unwrap_or, IsSomeAnd}
 use Rattle.std.specs.List.{list_any}
@@ -170,7 +170,7 @@ module _ (ballots : BallotFile) (sets gap : ℕ) (file : Content) (two : 1 < can
 -- ---- the call
 
 module _ (words : List (List ℕ)) (files : List File) (asks : Asks SearchFewest words) where
-  -- how a search goes on with its ballots
+  -- how a search continues with its ballots
   abbrev pub searching_fewest : List ℕ → BallotFile → Script
   searching_fewest bytes ballots = Ends (Searches asks.task ballots)
 
@@ -272,7 +272,7 @@ module _ (words : List (List ℕ)) (files : List File) (ok : IsFewestSearchable 
       absurd (omega (arith, above, budget, same))
   answers v d (inr (inr (inr (text, has, e)))) is = inr (ap status_in (is ∙ ap outcome e))
 
-  -- what such a search may come to
+  -- what a search like this may come to
   pub fewest_ends : (d : Outcome) → MayCome (AsHeld files) (asked words) d → (d.status ≡ 0) ⊎ (d.status ≡ 5)
   fewest_ends d may =
       let (v, searches, is) = says files task.ballots (refused_ballots task.ballots) (λ bytes. ballots_of bytes task.contest)

@@ -1,4 +1,4 @@
--- Status 0 of a search comes with a file that confirms the winner, and status 5 with reason for a full count.
+-- Status 0 of a search comes with a file that confirms the winner, and status 5 with a reason for a full count.
 use Rattle.std.proofs.Common.{◌≡◌, ℕ, true, List, [], Some, Ok, refl, ap, ap₂, subst, ◌∙◌}
 use Rattle.std.specs.Prelude.{unwrap_or, IsSomeAnd}
 use Rattle.desk.specs.Desk.{File, held_bytes}
@@ -24,7 +24,7 @@ use Rattle.raire_cli.proofs.Confirmed.{certificate-confirms, confirms-least}
 use Rattle.raire_cli.proofs.Said.{IsSaid, said}
 
 module _ (words : List (List ℕ)) (files : List File) (asks : Asks Search words) where
-  -- how a search goes on with its ballots
+  -- how a search continues with its ballots
   abbrev pub searching : List ℕ → BallotFile → Script
   searching bytes ballots = Ends (Searches asks.task ballots)
 

@@ -1,4 +1,4 @@
--- A session that has gone on by a round that wasn't refused, whatever its claims are.
+-- A session that has continued with a round that wasn't refused, whatever its claims are.
 use Rattle.std.proofs.Common.{◌≡◌, ℕ, ◌<◌, ◌≤◌, List, length, map, take, get_or, None, Some, All, Result, Ok, Err, IsTrue, refl, sym, ap, subst, ◌∙◌, arith}
 use Rattle.std.proofs.lemmas.List.{get_or-map, length-map}
 use Rattle.std.proofs.lemmas.List.FromFn.{length-map-range_with_len}
@@ -74,7 +74,7 @@ said_manifest name manifest session ballots bytes batches is =
 
 -- ---- the session and its claims
 
--- the session fits these values, which are those of its claims, and what is recorded of the cards
+-- the session fits these values, which are those of its claims, and what is recorded for the cards
 pub record Fitting (session : Content) (recorded : List Recorded) (values : List (List ℕ → ℕ)) (claims : List Audited) : Type 0 where
   pub sound : IsSound session
   pub same_cards : session.session.cards ≡ length recorded

@@ -33,7 +33,7 @@ use Rattle.raire_cli.specs.Openings.{Opens, names_of}
 use Rattle.raire_cli.proofs.Audited.{not_checked}
 use Rattle.raire_cli.proofs.Said.{held_whole, said, said_cards, value_of}
 
--- a check accepts the file, since `yes` alone is no session
+-- a check accepts the file, since `yes` by itself isn't a session
 said_opened : (task : OpenTask) (ballots : BallotFile) (batches : Batches) (file : FileContent) (digests : Digests) (text : List ℕ) →
     EndsSo task ballots batches file digests (Answered Done text) → (is_accepted task.budget ballots file ≡ true)
     × (Answered Done text ≡ opened task batches file digests)

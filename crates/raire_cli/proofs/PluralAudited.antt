@@ -1,4 +1,4 @@
--- Status 0 and 10 of a round of a plurality contest come with the session that its files make, and status 3 with the tie.
+-- Statuses 0 and 10 of a round of a plurality contest come with the session that its files make, and status 3 with the tie.
 use Rattle.std.proofs.Common.{◌≡◌, inr, ℕ, ◌<◌, ◌≤◌, List, [], length, Bool, true, false, Some, Result, Ok, Err, subst}
 use Rattle.sha2.specs.Sha256.{sha256}
 use Rattle.desk.specs.Desk.{File, held_bytes}
@@ -55,7 +55,7 @@ module _ (task : AuditPluralityTask) where
         subst (λ (content : Content). content.digests.assertions ≡ sha256 []) same (same_digest task.session read.digests.assertions [] digest),
       )
 
--- ---- the files, one after the other
+-- ---- the files, in order
 
 module _ (words : List (List ℕ)) (files : List File) (asks : Asks AuditPlurality words) (kind : AnswerKind) (text : List ℕ) where
   abbrev readings : Readings
@@ -123,10 +123,10 @@ module _ (words : List (List ℕ)) (files : List File) (asks : Asks AuditPlurali
       let (session, is, on) = value_of readings (plural_session task s) (after_session task) kind text (plural-only task s) rest in
       from_session s (whole task.session s there) session is on
 
-  -- ---- the session goes on
+  -- ---- the session continues
 
   module _ (of : IsKind kind) where
-    -- the session of the words goes on, and this prints it
+    -- the session that the words name continues, and this prints it
     abbrev Gone : Type 0
     Gone = (next : Content) × PluralGoesOn words files next × (text ≡ session_text next) × (kind ≡ kind_of next.session)
 

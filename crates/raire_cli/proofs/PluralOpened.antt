@@ -41,7 +41,7 @@ module _ (task : OpenPluralityTask) (ballots : BallotFile) (batches : Batches) (
   tie_of (Ok outcome) is = absurd (cc is)
   tie_of (Err tie) is = (tie, refl, cc is)
 
--- ---- the files, one after the other
+-- ---- the files, in order
 
 module _ (words : List (List ℕ)) (files : List File) (asks : Asks OpenPlurality words) (kind : AnswerKind) (text : List ℕ) where
   abbrev task : OpenPluralityTask

@@ -1,4 +1,4 @@
--- Status 0 and 10 of a poll come with the poll of its files.
+-- Statuses 0 and 10 of a poll come with the poll of its files.
 use Rattle.std.proofs.Common.{◌≡◌, ◌<◌, ◌≤◌, inl, inr, ℕ, zero, suc, Bool, true, List, [], ◌∷◌, map, get_or, All, IsTrue, Option, None, Some, refl, subst, arith}
 use Rattle.std.specs.Prelude.{option_map, unwrap_or}
 use Rattle.std.specs.List.{list_all}
@@ -48,7 +48,7 @@ use Rattle.raire_cli.proofs.Said.{said}
 
 -- ---- the claims cover
 
--- a spent budget and an order that isn't refuted have answers of other kinds
+-- a budget that ran out and an order that isn't refuted have answers of other kinds
 pub covered_on : (readings : Readings) (nodes : ℕ) (file : Content) (next : Script) (kind : AnswerKind) (text : List ℕ) → IsKind kind →
     Concludes readings (if_covered nodes file next) (Answered kind text) → (uncovered nodes file ≡ None) × Concludes readings next (Answered kind text)
 covered_on readings nodes file next kind text of comes =
@@ -84,7 +84,7 @@ module _ (task : PollTask) (batches : Batches) (file : Content) (entries : List 
     by None e is = (e, cc is, cc is)
     by (Some k) e is = absurd (cc is)
 
--- ---- the files, one after the other
+-- ---- the files, in order
 
 module _ (words : List (List ℕ)) (files : List File) (asks : Asks Poll words) (kind : AnswerKind) (text : List ℕ) (of : IsKind kind) where
   pub polled_by : ComesTo (AsHeld files) (asked words) (Answered kind text) →
@@ -136,7 +136,7 @@ module _ (limit gamma : ℕ) (lasting : 1 ≤ gamma) (part : limit < millionths_
   all_within (value ∷ values) are each (suc k) d below =
       all_within values (All-tail IsAssorter value values are) (and_parts (is_printed value) (list_all is_printed values) each).1 k d (omega arith)
 
--- where each claim is confirmed, its exact risk is within the limit
+-- if each claim is confirmed, its exact risk is within the limit
 pub were_within : {words : List (List ℕ)} {files : List File} (poll : IsPollOf words files) → IsTrue (is_confirmed_by poll) → WereAllWithin poll
 were_within {words} {files} poll confirmed =
     let task = poll.asks.task in

@@ -1,4 +1,4 @@
--- Status 0 and 10 of a poll with a look after each draw come with the poll of its files.
+-- Statuses 0 and 10 of a poll with a look after each draw come with the poll of its files.
 use Rattle.std.proofs.Common.{◌≡◌, ℕ, ◌<◌, ◌≤◌, List, length, get_or, take, Option, None, Some, IfSome, refl, subst, ◌∙◌, arith}
 use Rattle.std.specs.Prelude.{min, max, option_map, unwrap_or}
 use Rattle.std.proofs.lemmas.List.{length-map}
@@ -41,7 +41,7 @@ use Rattle.raire_cli.proofs.Audited.{IsKind}
 use Rattle.raire_cli.proofs.Polled.{covered_on}
 use Rattle.raire_cli.proofs.Said.{said}
 
--- ---- each card that is asked of is seen
+-- ---- each card that is needed is seen
 
 module _ (task : PollEachTask) (batches : Batches) (file : Content) (entries : List Entry) where
   abbrev inputs : PollInputs
@@ -59,7 +59,7 @@ module _ (task : PollEachTask) (batches : Batches) (file : Content) (entries : L
     by None e is = (e, cc is, cc is)
     by (Some k) e is = absurd (cc is)
 
--- ---- the files, one after the other
+-- ---- the files, in order
 
 module _ (words : List (List ℕ)) (files : List File) (asks : Asks PollEach words) (kind : AnswerKind) (text : List ℕ) (of : IsKind kind) where
   pub polled_each_by : ComesTo (AsHeld files) (asked words) (Answered kind text) →

@@ -1,4 +1,4 @@
--- A poll of files that are held and accepted, whose assertions are known to cover, tells what came of it.
+-- A poll of files that are held and accepted, whose assertions are known to cover, prints its result.
 use Rattle.std.proofs.Common.{◌≡◌, ◌⊎◌, inl, inr, ℕ, List, Option, None, Bool, true, false, sym, ap, subst}
 use Rattle.std.specs.Prelude.{option_map, unwrap_or}
 use Rattle.desk.specs.Desk.{File}
@@ -26,7 +26,7 @@ pub confirmed_status : (confirmed : Bool) (status : ℕ) → status ≡ status_o
 confirmed_status true status is = inl is
 confirmed_status false status is = inr is
 
--- where nothing is left open before the seen file, the call goes on
+-- if nothing is left open before the seen file, the call continues
 goes_on : (files : List File) (end : Option Verdict) (next : Script) (verdict : Verdict) → end ≡ None → Concludes (AsHeld files) next verdict →
     Concludes (AsHeld files) (poll.unless_ended end next) verdict
 goes_on files end next verdict none comes = subst (λ end. Concludes (AsHeld files) (poll.unless_ended end next) verdict) (sym none) comes

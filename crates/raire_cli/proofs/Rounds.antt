@@ -1,4 +1,4 @@
--- A tabulation of a contest that is decided has its rounds, and isn't spent if its budget is large enough.
+-- A tabulation of a contest that is decided has its rounds, and doesn't run out of budget if its budget is large enough.
 use Rattle.std.proofs.Common.{◌≡◌, ◌⊎◌, inl, inr, ◌≤◌, ◌<◌, ℕ, List, refl, sym, ap, subst, arith}
 use Rattle.desk.specs.Desk.{File}
 use Rattle.irv_base.specs.Tabulation.{HasNoTie}

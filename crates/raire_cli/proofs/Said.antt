@@ -1,4 +1,4 @@
--- What was said of files if a command answers.
+-- What files say if a command answers.
 use Rattle.std.proofs.Common.{◌≡◌, inl, inr, ℕ, ◌≤◌, length, nat_le, Bool, true, false, if◌then◌else◌, List, Option, None, Some, Result, Ok, Err, sym, ap, subst, ◌∙◌, leb-true, le-leb, refl}
 use Rattle.std.specs.Prelude.{ok_or, option_map}
 use Rattle.desk.specs.Desk.{File, held_bytes}
@@ -45,14 +45,14 @@ none_is_some e = cc e
 pub only : {A E : Type 0} {r : Result A E} {x y : A} → r ≡ Ok x → r ≡ Ok y → x ≡ y
 only {A = A} {E = E} {x = x} {y = y} first second = let same : ◌≡◌ {A = Result A E} (Ok x) (Ok y) = sym first ∙ second in cc
 
--- an answer comes of what is said
+-- an answer comes from what is said
 pub value_of : {A : Type 0} (readings : Readings) (judged : Result A Verdict) (next : A → Script) (kind : AnswerKind) (text : List ℕ) → OnlyRefuses judged →
     Concludes readings (go_on judged next) (Answered kind text) → (value : A) × (judged ≡ Ok value) × Concludes readings (next value) (Answered kind text)
 value_of readings (Ok value) next kind text only comes = (value, refl, comes)
 value_of readings (Err (Answered k t)) next kind text only comes = absurd only
 value_of readings (Err (Refused name t)) next kind text only comes = absurd (cc comes)
 
--- what is said is gone on with
+-- the command continues with what is said
 pub going : {A : Type 0} (readings : Readings) (judged : Result A Verdict) (value : A) (next : A → Script) (due : Outcome) → judged ≡ Ok value →
     May readings (next value) due →
     May readings (go_on judged next) due
@@ -62,7 +62,7 @@ pub told_ok : {A Why : Type 0} (words : Why → Verdict) (read : Result A Why) (
 told_ok words (Ok v) value is = cc is
 told_ok words (Err why) value is = absurd (cc is)
 
--- the bytes of a file that a command reads and goes on with, and what they say
+-- the bytes of a file that a command reads and continues with, and what they say
 pub record IsSaid {A Why : Type 0} (files : List File) (name : List ℕ) (read : List ℕ → Result A Why) (next : List ℕ → A → Script) (kind : AnswerKind)
     (text : List ℕ) : Type 0 where
   pub bytes : List ℕ
@@ -93,7 +93,7 @@ module _ {A Why : Type 0} (files : List File) (name : List ℕ) (words : Why →
       }
 
   module _ (bytes : List ℕ) (held : held_bytes name files ≡ Some bytes) (is_short : length bytes ≤ limit) (value : A) (is : read bytes ≡ Ok value) where
-    -- and the other way round
+    -- and the other way around
     pub saying : (v : Verdict) → Concludes (AsHeld files) (next bytes value) v →
         Concludes (AsHeld files) (Read name (λ bytes. go_on (told words (read bytes)) (next bytes))) v
     saying v rest =
@@ -133,7 +133,7 @@ pub none_mapped : {A B : Type 0} (f : A → B) (o : Option A) → option_map f o
 none_mapped f None none = refl
 none_mapped f (Some x) none = absurd (cc none)
 
--- the batches that are gone on with are those of the manifest, and each ballot has a card
+-- the batches that the command continues with are those of the manifest, and each ballot has a card
 pub said_cards : (name : List ℕ) (ballots : BallotFile) (manifest bytes : List ℕ) (batches : Batches) → cards_for name ballots manifest bytes ≡ Ok batches →
     (manifest_of bytes ≡ Ok batches) × (first_without_card batches ballots ≡ None)
 said_cards name ballots manifest bytes batches is =

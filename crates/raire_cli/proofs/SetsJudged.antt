@@ -1,5 +1,5 @@
--- More sets count in the check of an assertion file exactly if the check is spent, also before a trim, before a session is opened, and
--- before a round.
+-- More sets count in the check of an assertion file exactly when the check runs out of budget. This includes the checks before a trim, before
+-- a session is opened, and before a round.
 use Rattle.std.proofs.Common.{◌≡◌, ◌⊎◌, inl, inr, ℕ, ◌<◌, ◌==◌, Bool, true, false, if◌then◌else◌, List, [], ◌∷◌, Option, None, Some, Result, Ok, Err, MatchBool, refl, sym, ap, subst, arith, eqb-true, eq-eqb, lt-ltb, ◌∙◌}
 use Rattle.std.proofs.lemmas.Bool.{cases_Bool, cases_lt}
 use Rattle.sha2.specs.Sha256.{sha256}
@@ -58,7 +58,7 @@ module _ {A : Type 0} (files : List File) (name : List ℕ) (judge : List ℕ �
   abbrev whole : Script
   whole = Read name (λ bytes. go_on (judge bytes) (next bytes))
 
-  -- a command that answers goes on with what the file says
+  -- a command that answers continues with what the file says
   pub goes_on_with : (kind : AnswerKind) (text : List ℕ) → ((bytes : List ℕ) → OnlyRefuses (judge bytes)) →
       Concludes (AsHeld files) whole (Answered kind text) →
       (value : A) × (says : Says files name judge value) × Concludes (AsHeld files) (next says.bytes value) (Answered kind text)
@@ -74,7 +74,7 @@ module _ {A : Type 0} (files : List File) (name : List ℕ) (judge : List ℕ �
         on,
       )
 
-  -- and the other way round
+  -- and the other way around
   pub going_on_with : (value : A) (says : Says files name judge value) (v : Verdict) → Concludes (AsHeld files) (next says.bytes value) v →
       Concludes (AsHeld files) whole v
   going_on_with value says v rest = (
@@ -83,7 +83,7 @@ module _ {A : Type 0} (files : List File) (name : List ℕ) (judge : List ℕ �
     subst (λ j. Concludes (AsHeld files) (go_on j (next says.bytes)) v) (sym says.is) rest,
   )
 
--- with what is wrong in words, or without
+-- with words for what is wrong, or without
 module _ {A Why : Type 0} (files : List File) (name : List ℕ) (words : Why → Verdict) (read : List ℕ → Result A Why) (value : A) where
   untold : Says files name (λ bytes. told words (read bytes)) value → Says files name read value
   untold says = record { bytes = says.bytes; held = says.held; is_short = says.is_short; is = told_ok words (read says.bytes) value says.is }
@@ -100,7 +100,7 @@ module _ (sets : ℕ) (ballots : BallotFile) (file : Content) where
   abbrev from_margins : List (Option Answer)
   from_margins = other_margin ballots.rankings file ∷ uncovered (Sets sets) file ∷ later
 
-  -- what is found before is no fault
+  -- what is found before isn't a fault
   winner_first : (winner : ℕ) (fault : CheckFault) → checked_is (Sets sets) ballots.rankings file winner ≡ Err fault →
       (file.winner ≡ winner) × (first_found from_margins (Ok Accepted) ≡ Err fault)
   winner_first winner fault is = by (file.winner == winner) refl is where
@@ -158,7 +158,7 @@ module _ (sets : ℕ) (ballots : BallotFile) (file : Content) where
           ap (λ b. first_found (unless_covered (or_spent (if b then Some (CoverSpentSets sets) else None) (cover_verdict_on left)) ∷ later) (Ok Accepted))
           (lt-ltb sets (standing_sets (count_in file) file.winner (assertions_of file)) more.above)
 
-  -- ---- at a budget of so many sets
+  -- ---- at a budget of this number of sets
 
   module _ (budget : Budget) (is : budget ≡ Sets sets) where
     pub checked_more : (text : List ℕ) → Checks budget ballots file (Answered Spent text) → CountsMore sets ballots file
@@ -172,7 +172,7 @@ module _ (sets : ℕ) (ballots : BallotFile) (file : Content) where
     pub more_checked : CountsMore sets ballots file → Checks budget ballots file (Answered Spent (spent_sets sets))
     more_checked more = (Err (SpentSets sets), its_answer more, refl)
 
-    -- a check accepts no such file
+    -- a check doesn't accept a file like this
     pub not_accepted : CountsMore sets ballots file → is_accepted budget ballots file ≡ false
     not_accepted more = elim (cases_Bool (is_accepted budget ballots file)) [
       | inl accepted ↦
@@ -273,7 +273,7 @@ module _ (files : List File) (task : OpenTask) (sets : ℕ) (is : task.budget �
   abbrev opening_assertions : List ℕ → Result Content Verdict
   opening_assertions bytes = told (refused_assertions task.assertions) (assertion_file_of bytes)
 
-  -- once the digests of the first two files are known
+  -- when the digests of the first two files are known
   abbrev opens_with : BallotFile → Batches → List ℕ → List ℕ → List ℕ → Content → Script
   opens_with ballots batches b m a file =
       Ends (opening.Opens task ballots batches file (opening.all_digests (record { ballots = sha256 b; manifest = sha256 m }) a))

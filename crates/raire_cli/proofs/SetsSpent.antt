@@ -1,4 +1,4 @@
--- A number of sets is spent exactly if more sets count, and never if it is the number that the candidates need.
+-- A number of sets runs out exactly when more sets count, and never if it is the number that the candidates need.
 use Rattle.std.proofs.Common.{◌≡◌, inl, inr, ℕ, ◌<◌, ◌≤◌, ◌-◌, ◌^◌, List, refl, sym, ap, subst, arith, false}
 use Rattle.desk.specs.Desk.{File}
 use Rattle.assertions.specs.Hardness.{start_order}
@@ -32,7 +32,7 @@ use Rattle.raire_cli.proofs.AdoptionsSpent.{adopts_more, claims_said, claims_say
 use Rattle.raire_cli.proofs.SetsJudged.{both_said, both_saying, checked_more, more_checked, more_open, more_round, more_trims, open_more, round_more, trims_more}
 use Rattle.raire_cli.proofs.Undecided.{comes_of, ends_there, said_of, tried_spent}
 
--- with a number of sets nothing is left open
+-- a number of sets leaves nothing open
 pub closed_by : (command : Command) (sets : ℕ) → budget_of command ≡ Sets sets → is_open command ≡ false
 closed_by (Search task) sets is = ap has_nodes is
 closed_by (Tabulate task) sets is = absurd (cc is)
@@ -85,7 +85,7 @@ module _ (sets : ℕ) (ballots : BallotFile) where
         },
       )
 
--- the sets of the words
+-- the sets that the words give
 same_sets : {k sets : ℕ} → Sets k ≡ Sets sets → k ≡ sets
 same_sets e = cc
 

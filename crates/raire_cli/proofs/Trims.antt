@@ -37,7 +37,7 @@ use Rattle.raire_cli.specs.Trims.{IsTrimmedOf}
 use Rattle.raire_cli.proofs.Accepted.{accepted_answer}
 use Rattle.raire_cli.proofs.Said.{said, says_of}
 
--- what is printed is what is left
+-- the printed file is what is left
 left_of : (file : Content) (r : Result Content TrimFault) (text : List ℕ) → trim_verdict file r ≡ Some (Answered Done text) →
     (left : Content) × (r ≡ Ok left) × (text ≡ assertion_file_text left)
 left_of file (Ok left) text told = (left, refl, cc)
@@ -61,7 +61,7 @@ trimmed_answer budget file (Err (Spent last)) text told = accepted_answer file (
 trimmed_answer budget file (Err (SpentSets sets)) text told = accepted_answer file (Err (SpentSets sets)) text told
 trimmed_answer budget file (Err Memory) text told = accepted_answer file (Err Memory) text told
 
--- the plan of the claims that are left is a plan if that of all claims is
+-- the plan of the claims that are left is a plan if the plan of all claims is one
 left_sound : (budget : Budget) (file : Content) (claims : List Claim) → claims_left budget file [] file.claims ≡ Ok claims → (plan : Option Plan) →
     IfSome plan (IsSoundPlan file.records (length file.claims)) →
     IfSome (option_map (λ (plan : Plan). with_draws (draws_left budget file [] file.claims plan.draws) plan) plan) (IsSoundPlan file.records (length claims))

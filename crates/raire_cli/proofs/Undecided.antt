@@ -1,4 +1,4 @@
--- Status 3 comes of a contest that isn't decided, with its first tie.
+-- Status 3 comes from a contest that isn't decided, with its first tie.
 use Rattle.std.proofs.Common.{◌≡◌, ◌⊎◌, inl, inr, ◌+◌, ◌≤◌, ◌<◌, ℕ, List, Option, None, Some, refl, sym, ◌∙◌, ap, subst, arith}
 use Rattle.std.proofs.lemmas.List.FromFn.{length-map-range_with_len}
 use Rattle.std.specs.Fmt.{decimal}
@@ -50,7 +50,7 @@ use Rattle.raire_cli.proofs.PluralAudited.{round_tie}
 use Rattle.raire_cli.proofs.PluralOpened.{opening_tie}
 use Rattle.raire_cli.proofs.Said.{only, said, saying, says_of}
 
--- ---- a tie that is told
+-- ---- a tie that is printed
 
 module _ (text : List ℕ) where
   tie_found : (budget : Budget) (least : ℕ) (plan : Option PlanTerms) (ballots : BallotFile) → Finds budget least plan ballots (Answered Tie text) →
@@ -70,7 +70,7 @@ module _ (text : List ℕ) where
   tie_tried task (inr (inl (other, has, e))) = let same : other ≡ text = cc in subst (HasTie (contest_of task)) same has.0
   tie_tried task (inr (inr (other, has, e))) = absurd (cc e)
 
--- a command goes on with the ballots of a file
+-- a command continues with the ballots of a file
 module _ (files : List File) (name : List ℕ) (contest : Option Id) (Ended : BallotFile → Verdict → Type 0) where
   abbrev ended_by : List ℕ → BallotFile → Script
   ended_by bytes ballots = Ends (Ended ballots)
@@ -134,7 +134,7 @@ module _ (words : List (List ℕ)) (files : List File) (text : List ℕ) where
   pub tells_tie : ComesTo (AsHeld files) (asked words) (Answered Tie text) → Tells
   tells_tie comes = tells (command_of words) refl comes
 
--- ---- a tie that comes
+-- ---- a tie that is reached
 
 module _ (files : List File) (ballots : BallotFile) where
   fewest_in : (name : List ℕ) (contest : Option Id) → AreBallots files name contest ballots → FEWEST_CANDIDATES ≤ candidate_count ballots
@@ -164,7 +164,7 @@ module _ (files : List File) (ballots : BallotFile) where
   comes_to_tie text tie (Trial task) is told = inr (inl (text, subst (λ contest. HasTie contest text × IsTold task.budget contest) is (tie, told), refl))
   comes_to_tie text tie _ about told = absurd about
 
--- ---- and no budget that is spent
+-- ---- and no budget that runs out
 
 module _ (ballots : BallotFile) (nodes : ℕ) (fewest : FEWEST_CANDIDATES ≤ candidate_count ballots) (undecided : IsUndecided ballots)
     (budget : SufficesForTie (Nodes nodes) ballots) where
@@ -174,7 +174,7 @@ module _ (ballots : BallotFile) (nodes : ℕ) (fewest : FEWEST_CANDIDATES ≤ ca
       let above : nodes < work_for (candidate_count ballots) ballots.rankings won.order last = race.above in
       omega (arith, enough, above)
 
-  -- no contest that isn't decided has a certificate
+  -- a contest that isn't decided has no certificate
   no_certificate : (winner : ℕ) → IsWon ballots winner → 1 ≤ margin_of ballots winner → ⊥
   no_certificate winner won some =
       undecided (

@@ -1,4 +1,4 @@
--- What it means that a check accepts an assertion file.
+-- What it means for a check to accept an assertion file.
 use Rattle.std.specs.Prelude.{◌≡◌, ℕ, List, Option, IfSome}
 use Rattle.desk.specs.Desk.{File}
 use Rattle.ballots.specs.Ballots.{BallotFile}
@@ -10,7 +10,7 @@ use Rattle.check_command.specs.Check.{yes_text}
 use Rattle.raire_cli.specs.Asks.{Asks}
 use Rattle.raire_cli.specs.Held.{AreChecked}
 
--- this is what the assertion file of the words says, and it holds of the ballots of the contest that was asked for
+-- this is what the assertion file that the words name says, and it holds for the ballots of the contest that they ask about
 pub record HoldsAsked (words : List (List ℕ)) (files : List File) (file : Content) : Type 0 where
   pub asks : Asks Check words
   pub ballots : BallotFile
@@ -19,8 +19,8 @@ pub record HoldsAsked (words : List (List ℕ)) (files : List File) (file : Cont
 
 -- ---- what `run` promises
 
--- Status 0 of a check: its assertion file holds of the ballots, and `out` has `yes`, the number of its assertions and its margin; of a file
--- without an order also that this isn't said to be the best one.
+-- Status 0 of a check: its assertion file holds for the ballots. `out` has `yes`, the number of assertions in the file and its margin. If
+-- the file has no order, `out` also says that this margin isn't claimed to be the best one.
 abbrev pub IsUpheld : Option (List File) → List (List ℕ) → ℕ → Writing → Type 0
 IsUpheld held words status out = IfSome held (λ files. Asks Check words → status ≡ 0 →
     (file : Content) × HoldsAsked words files file × Took out (yes_text file))

@@ -1,4 +1,4 @@
--- What it means that claims are adopted.
+-- What it means for claims to be adopted.
 use Rattle.std.specs.Prelude.{◌≡◌, ◌⊎◌, ℕ, List, Option, IfSome, Ok}
 use Rattle.desk.specs.Desk.{File}
 use Rattle.irv_base.specs.Tabulation.{AllElect}
@@ -19,18 +19,18 @@ use Rattle.contest_search.specs.Contest.{candidate_count}
 use Rattle.raire_cli.specs.Asks.{Asks}
 use Rattle.raire_cli.specs.Held.{AreClaimed}
 
--- this is the assertion file that the claims of the words are adopted as
+-- the claims that the words name are adopted as this assertion file
 pub record IsAdoptedOf (words : List (List ℕ)) (files : List File) (file : Content) : Type 0 where
   pub asks : Asks Adopt words
   pub ballots : BallotFile
   pub claims : Claimed
   pub are : AreClaimed files asks.task.ballots asks.task.claims asks.task.contest ballots claims
-  -- the claims file's assertions are each true of the records, and refute every order that elects another candidate than its winner; the
-  -- file's are the same, each once, in the fixed order, with its margin over the records
+  -- each assertion of the claims file is true of the records, and together they refute every order that elects a candidate other than its
+  -- winner; the assertion file has the same assertions, each once, in the fixed order, with its margin over the records
   pub adopted : IsAdopted ballots claims file
-  -- whom each way of breaking ties elects
+  -- every way of breaking ties elects the winner
   pub decided : AllElect (candidate_count ballots) ballots.rankings file.winner
-  -- what is printed of it says the same when it is read
+  -- the printed file says the same when it is read
   pub reads_back : assertion_file_of (assertion_file_text file) ≡ Ok file
   -- and a check of the same ballots with the same budget accepts it
   pub accepted : IsAnswer asks.task.budget ballots file (Ok Accepted)
@@ -38,14 +38,14 @@ pub record IsAdoptedOf (words : List (List ℕ)) (files : List File) (file : Con
 -- ---- what `run` promises
 
 -- Status 0 of an adoption: `out` has the assertion file of the claims. Its assertions are those that were named, each once. Each is true
--- of the records with its margin, they refute every order that elects another candidate than the file's winner, and each way of breaking
--- ties elects this one.
+-- of the records with its margin. Together they refute every order that elects a candidate other than the file's winner, and every way of
+-- breaking ties elects this winner.
 abbrev pub AreAdopted : Option (List File) → List (List ℕ) → ℕ → Writing → Type 0
 AreAdopted held words status out = IfSome held (λ files. Asks Adopt words → status ≡ 0 →
     (file : Content) × IsAdoptedOf words files file × Took out (assertion_file_text file))
 
--- The words ask to adopt claims that prove their winner (each is true of the records, and they refute every order that elects another
--- candidate), and the budget is enough for them.
+-- The words ask to adopt claims that prove their winner: each is true of the records, and they refute every order that elects another
+-- candidate. The budget is large enough for them.
 pub record AreAdoptable (words : List (List ℕ)) (files : List File) : Type 0 where
   pub asks : Asks Adopt words
   pub ballots : BallotFile
@@ -55,7 +55,7 @@ pub record AreAdoptable (words : List (List ℕ)) (files : List File) : Type 0 w
   pub enough : IsEnough asks.task.budget (candidate_count ballots) claims.winner
       (each_once (candidate_count ballots) claims.assertions)
 
--- Such claims are adopted, if memory was found and no count of faults rose.
+-- If memory was found and no count of faults rose, claims like these are adopted.
 abbrev pub IsAdoptionComplete : Option (List File) → List (List ℕ) → Type 0 → ℕ → Writing →
     Writing → Type 0
 IsAdoptionComplete held words failed status out err =

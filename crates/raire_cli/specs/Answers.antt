@@ -1,4 +1,4 @@
--- What the words of a call ask for: a command is the files that it reads, one after the other, and what it comes to.
+-- What the words of a call ask for. A command is given by the files that it reads, in order, and by what it comes to.
 use Rattle.std.specs.Prelude.{ℕ, Bool, true, false, List, [], ◌∷◌, length, Option, None, Some}
 use Rattle.budget.specs.declared.budget.Budget.{Budget}
 use Rattle.budget.specs.declared.budget.Budget.TheVariants.{Nodes, Sets}
@@ -51,7 +51,7 @@ asked_by (Some command) = Runs (script_of command)
 abbrev pub asked : List (List ℕ) → Asked
 asked words = asked_by (command_of words)
 
--- the files of a command by their names, in the order in which it reads them
+-- the names of a command's files, in the order in which it reads them
 abbrev pub files_of : Command → List (List ℕ)
 files_of (Search task) = task.ballots ∷ []
 files_of (SearchFewest task) = task.ballots ∷ []
@@ -72,7 +72,7 @@ files_of (OpenPlurality task) = task.ballots ∷ task.manifest ∷ []
 files_of (AuditPlurality task) = task.session ∷ task.ballots ∷ task.manifest ∷ task.seen ∷ []
 files_of (Contests task) = task.ballots ∷ task.manifest ∷ task.seen ∷ []
 
--- what is known of the files that the words may name: what the desk reports; for a trial, which reads none, that there are none
+-- what is known about the files that the words may name: what the desk reports, or that there are none for a trial, which reads no files
 abbrev pub known_by : Option Command → Option (List File) → Option (List File)
 known_by (Some (Trial task)) held = Some []
 known_by _ held = held
@@ -80,7 +80,7 @@ known_by _ held = held
 abbrev pub files_known : List (List ℕ) → Option (List File) → Option (List File)
 files_known words held = known_by (command_of words) held
 
--- how many files the words name
+-- the number of files that the words name
 abbrev pub count_of : Option Command → ℕ
 count_of None = 0
 count_of (Some command) = length (files_of command)
@@ -92,7 +92,8 @@ abbrev pub has_nodes : Budget → Bool
 has_nodes (Nodes nodes) = true
 has_nodes (Sets sets) = false
 
--- a budget of nodes may leave open what the command comes to: a search, a tabulation, a trial, or an audit of all contests
+-- whether a budget of nodes may leave open what the command comes to: it may for a search, a tabulation, a trial or an audit of all
+-- contests
 abbrev pub is_open : Command → Bool
 is_open (Search task) = has_nodes task.budget
 is_open (Tabulate task) = true
@@ -100,12 +101,12 @@ is_open (Trial task) = has_nodes task.budget
 is_open (Contests task) = true
 is_open _ = false
 
--- the files don't determine what it prints: of several choices of the fewest NENs one is printed
+-- whether the files leave open what the command prints: if several choices have the fewest NENs, one of them is printed
 abbrev pub has_choice : Command → Bool
 has_choice (SearchFewest task) = true
 has_choice _ = false
 
--- it audits all contests of a file, each of which has a budget of its own
+-- whether the command audits all contests of a file, each of which has a budget of its own
 abbrev pub is_of_contests : Command → Bool
 is_of_contests (Contests task) = true
 is_of_contests _ = false

@@ -1,4 +1,4 @@
--- What it means that the session of an audit goes on.
+-- What it means for the session of an audit to continue.
 use Rattle.std.specs.Prelude.{◌≡◌, ◌⊎◌, ◌↔◌, ℕ, List, length, Option, IfSome, IsTrue}
 use Rattle.desk.specs.Desk.{File}
 use Rattle.manifest.specs.Cards.{cards_of}
@@ -24,10 +24,10 @@ abbrev pub names_of : AuditTask → FileNames
 names_of task =
     record { ballots = task.ballots; manifest = task.manifest; assertions = task.assertions }
 
--- ---- the session goes on
+-- ---- the session continues
 
 module _ (inputs : RoundInputs Basis) where
-  -- what is recorded of each card
+  -- what is recorded for each card
   abbrev pub recorded : List Recorded
   recorded = linked_of inputs.basis.batches inputs.basis.ballots
 
@@ -41,7 +41,7 @@ module _ (inputs : RoundInputs Basis) where
   abbrev pub drawn : ℕ → List ℕ
   drawn draws = drawn_cards inputs.session.seed cards draws
 
--- the session of the words goes on, and then is this
+-- the session that the words name continues, and this is the session afterward
 pub record GoesOn (words : List (List ℕ)) (files : List File) (next : Content) : Type 0 where
   pub asks : Asks Audit words
   pub bytes : RoundBytes FileBytes
@@ -49,14 +49,14 @@ pub record GoesOn (words : List (List ℕ)) (files : List File) (next : Content)
       bytes
   pub inputs : RoundInputs Basis
   pub say : SayRound Say inputs.basis.batches inputs.basis.file.candidates bytes inputs
-  -- the session has the digests of the files, and their cards, contest and margins
+  -- the session has the files' digests, cards, contest and margins
   pub of_files : IsOfInputs inputs.session (digests_of bytes.basis)
       (length (cards_of inputs.basis.batches)) inputs.basis.file
   pub together : BelongTogether inputs.basis
   pub is_next : IsNextRound inputs.session (recorded inputs) inputs.entries (claims inputs)
       asks.task.draws next
 
--- after some of its draws the exact risk of each assertion was within the limit
+-- for each assertion, the exact risk was within the limit after some number of the draws
 abbrev pub WereAllWithin : {words : List (List ℕ)} {files : List File} {next : Content} →
     GoesOn words files next → Type 0
 WereAllWithin on =
@@ -65,8 +65,8 @@ WereAllWithin on =
 
 -- ---- what `run` promises
 
--- Status 0 and 10 of an audit: `out` has the session with one round more, which is that of its files. It is 0 exactly if the session is
--- signed off. Then the exact risk of each assertion was within the limit.
+-- Statuses 0 and 10 of an audit: `out` has the session with one more round, which is the round of its files. The status is 0 exactly when
+-- the session is signed off. In that case the exact risk of each assertion was within the limit.
 abbrev pub IsAudited : Option (List File) → List (List ℕ) → ℕ → Writing → Type 0
 IsAudited held words status out =
     IfSome held (λ files. Asks Audit words → (status ≡ 0) ⊎ (status ≡ 10) →

@@ -1,4 +1,4 @@
--- How large a budget suffices for a search or a trial.
+-- How large a budget must be for a search or a trial.
 use Rattle.std.specs.Prelude.{ℕ, ◌≤◌, List}
 use Rattle.assertions.specs.Hardness.{first_bound}
 use Rattle.bound_search.specs.Race.{work_for}
@@ -10,7 +10,7 @@ use Rattle.contest_search.specs.Contest.{candidate_count, IsOther, IsWon}
 use Rattle.command_line.specs.declared.commands.Command.{Command}
 use Rattle.command_line.specs.declared.commands.Command.TheVariants.{Search, SearchFewest, Tabulate, Trial, Check, Trim, Adopt, Open, Audit, Poll, PollEach, Contests}
 
--- the budget of a command; no nodes, which are fewer than those of any budget, of a command that has none
+-- the budget of a command; for a command without a budget this is 0 nodes, fewer than any budget has
 abbrev pub budget_of : Command → Budget
 budget_of (Search task) = task.budget
 budget_of (SearchFewest task) = Sets task.sets
@@ -26,19 +26,19 @@ budget_of (PollEach task) = Nodes task.nodes
 budget_of (Contests task) = Nodes task.nodes
 budget_of _ = Nodes 0
 
--- the hardness of the order that a search starts with, if this is the tabulated order
+-- the hardness of the order that a search starts with, given the tabulated order
 abbrev pub start_of : BallotFile → List ℕ → ℕ
 start_of ballots tabulated = first_bound (candidate_count ballots) ballots.rankings tabulated
 
--- if this is the tabulated order and this candidate has won: there are as many nodes as a search may need for each other candidate, or as
+-- given the tabulated order and the candidate who won: the budget has as many nodes as a search may need for each other candidate, or as
 -- many sets as it needs
 abbrev pub Suffices : Budget → BallotFile → List ℕ → ℕ → Type 0
 Suffices (Nodes nodes) ballots tabulated winner =
     (c : ℕ) → IsOther ballots winner c → nodes_for ballots tabulated winner c ≤ nodes
 Suffices (Sets sets) ballots tabulated winner = sets_of ballots winner ≤ sets
 
--- if the contest isn't decided: there are as many nodes as the race may need for each candidate whom the tabulated order doesn't elect,
--- or as many sets as a search needs, unless the order that it starts with decides
+-- for a contest that isn't decided: the budget has as many nodes as the race may need for each candidate that the tabulated order doesn't
+-- elect, or as many sets as a search needs, unless the order that the search starts with settles it
 abbrev pub SufficesForTie : Budget → BallotFile → Type 0
 SufficesForTie (Nodes nodes) ballots =
     (winner c : ℕ) (won : IsWon ballots winner) → IsOther ballots winner c →

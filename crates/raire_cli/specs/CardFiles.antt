@@ -1,4 +1,4 @@
--- The files that say what is recorded of each card: a ballot file and a manifest.
+-- The files that say what is recorded for each card: a ballot file and a manifest.
 use Rattle.std.specs.Prelude.{◌≡◌, ℕ, List, Some}
 use Rattle.desk.specs.Desk.{File, held_bytes}
 
@@ -7,7 +7,7 @@ pub record CardBytes : Type 0 where
   pub ballots : List ℕ
   pub manifest : List ℕ
 
--- the files of these names are held, and have these bytes
+-- the files with these names are held, and have these bytes
 pub record AreCardFiles (ballots manifest : List ℕ) (files : List File)
     (bytes : CardBytes) : Type 0 where
   pub held_ballots : held_bytes ballots files ≡ Some bytes.ballots

@@ -1,4 +1,4 @@
--- What it means that all contests of a ballot file are audited on one sample of cards.
+-- What it means for all contests of a ballot file to be audited on one sample of cards.
 use Rattle.std.specs.Prelude.{◌≡◌, ◌≢◌, ◌⊎◌, ◌↔◌, ℕ, List, All, Option, None, Some, IfSome, Ok, IsTrue}
 use Rattle.desk.specs.Desk.{File, held_bytes}
 use Rattle.ballots.specs.Ballots.{BallotFile}
@@ -22,14 +22,14 @@ use Rattle.raire_cli.specs.Asks.{Asks}
 use Rattle.raire_cli.specs.CardFiles.{AreCardFiles, CardBytes}
 use Rattle.raire_cli.specs.Answers.{asked}
 
--- ---- its files
+-- ---- the files
 
--- the bytes of its three files
+-- the bytes of the three files
 pub record ContestsBytes : Type 0 where
   pub cards : CardBytes
   pub seen : List ℕ
 
--- the files of the words are held, and have these bytes
+-- the files that the words name are held, and have these bytes
 pub record AreContestsFiles (task : ContestsTask) (files : List File)
     (bytes : ContestsBytes) : Type 0 where
   pub cards : AreCardFiles task.ballots task.manifest files bytes.cards
@@ -41,15 +41,15 @@ pub record ContestsInputs : Type 0 where
   pub batches : Batches
   pub seen : List (List Entry)
 
--- the bytes say so
+-- the bytes say this
 pub record SayContests (bytes : ContestsBytes) (inputs : ContestsInputs) : Type 0 where
   pub ballots : contests_of bytes.cards.ballots ≡ Ok inputs.list
   pub manifest : manifest_of bytes.cards.manifest ≡ Ok inputs.batches
   pub seen : seen_by inputs.batches inputs.list bytes.seen ≡ Ok inputs.seen
 
--- ---- nodes that suffice
+-- ---- enough nodes
 
--- the nodes are as many as may be needed in each contest of the ballot file
+-- there are as many nodes as may be needed in each contest of the ballot file
 abbrev pub HaveNodes : ContestsTask → List File → Type 0
 HaveNodes task files =
     (bytes : List ℕ) (list : List BallotFile) → held_bytes task.ballots files ≡ Some bytes →
@@ -57,7 +57,7 @@ HaveNodes task files =
 
 -- ---- the audit
 
--- the audit of the words
+-- the audit that the words ask for
 pub record AuditsContests (words : List (List ℕ)) (files : List File) : Type 0 where
   pub asks : Asks Contests words
   pub bytes : ContestsBytes
@@ -66,7 +66,7 @@ pub record AuditsContests (words : List (List ℕ)) (files : List File) : Type 0
   pub say : SayContests bytes inputs
   -- each ballot of each contest has a card
   pub placed : first_without_card_of_all inputs.batches inputs.list ≡ None
-  -- each contest ends so, by its own ballots, what is seen for it, the manifest and the terms of the words
+  -- each contest ends this way, based on its own ballots, what is seen for it, the manifest and the terms that the words give
   pub ends : List ContestEnd
   pub are : AreEnds inputs.batches (terms_of asks.task) inputs.list inputs.seen ends
 
@@ -77,7 +77,7 @@ blocks_of audit = contests_table audit.asks.task.limit audit.inputs.list audit.e
 
 -- ---- a refusal
 
--- a rule refuses what a file of the words holds, and it isn't that a drawn card has no record
+-- a rule refuses what a file that the words name holds, and not because a drawn card has no record
 abbrev pub IsRefusedAnyway : List (List ℕ) → List File → Type 0
 IsRefusedAnyway words files =
     (name text : List ℕ) × ComesTo (AsHeld files) (asked words) (Refused name text)
@@ -85,7 +85,8 @@ IsRefusedAnyway words files =
 
 -- ---- what `run` promises
 
--- Status 0 and 10 of an audit of all contests: `out` says how each contest of the file ends. It is 0 exactly if each is signed off.
+-- Statuses 0 and 10 of an audit of all contests: `out` says how each contest of the file ends. The status is 0 exactly when each contest is
+-- signed off.
 abbrev pub IsAuditedByContest : Option (List File) → List (List ℕ) → ℕ → Writing → Type 0
 IsAuditedByContest held words status out =
     IfSome held (λ files. Asks Contests words → (status ≡ 0) ⊎ (status ≡ 10) →

@@ -1,4 +1,4 @@
--- How large a budget is enough if an assertion file is judged, or claims are adopted.
+-- How large a budget is enough to judge an assertion file or to adopt claims.
 use Rattle.std.specs.Prelude.{◌≡◌, ◌≢◌, ℕ, List, Option, None, Some, IfSome, Ok}
 use Rattle.budget.specs.declared.budget.Budget.{Budget}
 use Rattle.budget.specs.declared.budget.Budget.TheVariants.{Nodes}
@@ -20,7 +20,8 @@ pub record Judging : Type 0 where
   pub assertions : List ℕ
   pub budget : Budget
 
--- what a command judges: a check, one before a file is trimmed, one that opens a session, one before a round, and one before a poll
+-- what a command judges: a check judges its file, and so do the commands that trim a file, open a session, start a round or hold a poll,
+-- before they do so
 abbrev pub judging_of : Command → Option Judging
 judging_of (Check task) = Some (record { assertions = task.assertions; budget = task.budget })
 judging_of (Trim task) = Some (record { assertions = task.assertions; budget = task.budget })
@@ -31,14 +32,14 @@ judging_of (PollEach task) =
     Some (record { assertions = task.assertions; budget = Nodes task.nodes })
 judging_of _ = None
 
--- if the assertion file has n candidates, there are at least 2 * (n - 1)! nodes, or 2^n - 3 sets
+-- if the assertion file has n candidates, the budget has at least 2 * (n - 1)! nodes, or at least 2^n - 3 sets
 abbrev pub AreEnough : List File → Judging → Type 0
 AreEnough files judging =
     (bytes : List ℕ) (file : Content) → held_bytes judging.assertions files ≡ Some bytes →
     assertion_file_of bytes ≡ Ok file →
     IsEnoughFor (count_in file) judging.budget
 
--- if the contest has n candidates, an adoption has as many
+-- if the contest has n candidates, the budget of the adoption has as many
 abbrev pub AreEnoughToAdopt : List File → AdoptTask → Type 0
 AreEnoughToAdopt files task =
     (ballots : BallotFile) → AreBallots files task.ballots task.contest ballots →
@@ -52,6 +53,6 @@ pub record IsNeverSpentOver (files : List File) (words : List (List ℕ)) (statu
       judging_of command ≡ Some judging → AreEnough files judging → status ≢ 4
   pub adopted : (adopt : Asks Adopt words) → AreEnoughToAdopt files adopt.task → status ≢ 4
 
--- With enough nodes or sets a budget isn't spent.
+-- With enough nodes or sets a budget doesn't run out.
 abbrev pub IsNeverSpent : Option (List File) → List (List ℕ) → ℕ → Type 0
 IsNeverSpent held words status = IfSome held (λ files. IsNeverSpentOver files words status)

@@ -1,4 +1,4 @@
--- What it means that assertions with the fewest NENs confirm the winner of some records.
+-- What it means for assertions with the fewest NENs to confirm the winner of some records.
 use Rattle.std.specs.Prelude.{◌≡◌, ◌⊎◌, ◌-◌, ◌^◌, ◌≤◌, ◌<◌, ℕ, List, All, Contains, Option, None, Some, IfSome, IsSomeAnd, Ok, IsTrue, length, map, option_map}
 use Rattle.desk.specs.Desk.{File, held_bytes}
 use Rattle.assertions.specs.declared.assertion.Assertion.{Assertion}
@@ -24,9 +24,9 @@ use Rattle.search_commands.specs.Search.{full_count_lines, has_cards, plan_by}
 use Rattle.raire_cli.specs.Asks.{Asks}
 use Rattle.raire_cli.specs.Confirmation.{ClaimHolds, GivesReason, IsHardest, IsLeast}
 
--- ---- as few NENs as there can be
+-- ---- as few NENs as possible
 
--- assertions among n candidates that are true of the records, each by at least this margin
+-- the list has assertions among n candidates, each true of the records by at least this margin
 abbrev pub AreTrueBy : ℕ → List (List ℕ) → ℕ → List Assertion → Type 0
 AreTrueBy n records least list =
     All (λ a. IsTrue (is_proper n a) × IsTrue (is_true records a) × (least ≤ true_margin records a)) list
@@ -37,21 +37,21 @@ RuleOut n winner list =
     (order : List ℕ) → IsAlternative n winner order →
     (a : Assertion) × Contains list a × IsTrue (refutes a order)
 
--- no other assertions that do have fewer NENs, if each is true by at least this margin
+-- no other assertions that rule out these orders have fewer NENs, if each of them is true by at least this margin
 abbrev pub HasFewestNens : ℕ → List (List ℕ) → ℕ → ℕ → Content → Type 0
 HasFewestNens n records winner least file =
     (others : List Assertion) → AreTrueBy n records least others → RuleOut n winner others →
     nen_count (map (λ claim. claim.assertion) file.claims) ≤ nen_count others
 
--- the best margin: each order that elects another candidate is refuted by a true assertion of at least that margin, and one by none of a
--- larger margin
+-- this is the best margin: every order that elects another candidate is refuted by a true assertion with at least this margin, and one of
+-- these orders isn't refuted by any true assertion with a larger margin
 pub record IsBestMargin (n : ℕ) (records : List (List ℕ)) (winner margin : ℕ) : Type 0 where
   pub least : IsLeast n records winner margin
   pub order : List ℕ
   pub hardest : IsHardest n records winner order margin
 
--- the assertions are all true of the records, and refute every elimination order that elects another candidate; the margin is the smallest of
--- theirs, and there is an order only if it is the best one
+-- the assertions are all true of the records, and refute every elimination order that elects another candidate; the margin is the smallest
+-- of their margins, and there is an order only if this margin is the best one
 pub record ConfirmsBelow (n : ℕ) (records : List (List ℕ)) (winner best : ℕ) (file : Content)
     : Type 0 where
   pub hold : All (ClaimHolds n records) file.claims
@@ -66,7 +66,7 @@ pub record ConfirmsBelow (n : ℕ) (records : List (List ℕ)) (winner best : �
 
 -- ---- a search for the fewest NENs
 
--- its file is held and accepted, each ballot of the contest has one of the cards that the words give, if they give a number, and the
+-- its file is held and accepted; if the words give a number of cards, there are at least as many cards as ballots of the contest; the
 -- tabulated order elects this candidate
 pub record AsksForFewest (words : List (List ℕ)) (files : List File) (ballots : BallotFile)
     (winner : ℕ) : Type 0 where
@@ -77,8 +77,8 @@ pub record AsksForFewest (words : List (List ℕ)) (files : List File) (ballots 
   pub cards : IsTrue (has_cards search.task.plan ballots)
   pub won : IsWon ballots winner
 
--- this is a file that confirms the winner of the contest that was asked for, whom each way of breaking its ties elects, with the fewest NENs;
--- the best margin reaches the floor, and the file's isn't below it by more than the gap
+-- this file confirms the winner of the contest that the words ask about with the fewest NENs; every way of breaking the contest's ties
+-- elects this winner; the best margin reaches the floor, and the file's margin isn't below the best one by more than the gap
 pub record ConfirmsFewest (words : List (List ℕ)) (files : List File) (file : Content) : Type 0 where
   pub ballots : BallotFile
   pub winner : ℕ
@@ -95,12 +95,12 @@ pub record ConfirmsFewest (words : List (List ℕ)) (files : List File) (file : 
   pub least : least_margin asks.search.task.gap best ≤ file.margin
   pub fewest : HasFewestNens (candidate_count ballots) ballots.rankings winner
       (least_margin asks.search.task.gap best) file
-  -- each of its assertions is needed, if there are as many sets as are ever needed
+  -- if there are as many sets as are ever needed, each of its assertions is needed
   pub needed : 2 ^ candidate_count ballots - 3 ≤ asks.search.task.sets → IsIrredundant file
-  -- it has the clean draws of its assertions, if the words give a number of cards
+  -- if the words give a number of cards, it has the clean draws of its assertions
   pub plan : file.plan ≡ option_map (plan_by file) asks.search.task.plan
 
--- this is a text that gives an order as reason for a full count of that contest, as a search gives it
+-- this text gives an order as the reason for a full count of that contest, the way a search gives it
 pub record GivesFewestReason (words : List (List ℕ)) (files : List File) (text : List ℕ) : Type 0 where
   pub ballots : BallotFile
   pub winner : ℕ
@@ -115,26 +115,26 @@ pub record GivesFewestReason (words : List (List ℕ)) (files : List File) (text
 
 -- ---- what `run` promises
 
--- Status 0 of a search for the fewest NENs: each way of breaking ties elects the winner. The printed assertions are all true of the records,
--- and refute every elimination order that elects another candidate. The printed margin is the smallest of theirs. It isn't below the best margin
--- by more than the gap, and if it is the best one, an order is printed that no true assertion of larger margin refutes. No true assertions
--- whose margins aren't below by more than the gap, and which refute all these orders, have fewer NENs. If there are as many sets as are ever
--- needed, each printed assertion is needed. If the words give a number of cards, the printed draws are those of a clean audit; otherwise
--- there are none.
+-- Status 0 of a search for the fewest NENs: every way of breaking ties elects the winner. The printed assertions are all true of the
+-- records, and refute every elimination order that elects another candidate. The printed margin is the smallest of their margins. It isn't
+-- below the best margin by more than the gap. If it is the best margin, an order is printed that no true assertion with a larger margin
+-- refutes. No true assertions that refute all these orders, with margins that aren't below the best one by more than the gap, have fewer
+-- NENs. If there are as many sets as are ever needed, each printed assertion is needed. If the words give a number of cards, the printed
+-- draws are those of a clean audit. Otherwise no draws are printed.
 abbrev pub IsFewest : Option (List File) → List (List ℕ) → ℕ → Writing → Type 0
 IsFewest held words status out =
     IfSome held (λ files. Asks SearchFewest words → status ≡ 0 →
     (file : Content) × ConfirmsFewest words files file × Took out (assertion_file_text file))
 
--- Status 5: each way of breaking ties elects the winner. An order that elects another candidate is printed, and no true
--- assertion whose margin reaches the floor refutes it.
+-- Status 5: every way of breaking ties elects the winner. An order that elects another candidate is printed, and no true assertion whose
+-- margin reaches the floor refutes it.
 abbrev pub IsReasoned : Option (List File) → List (List ℕ) → ℕ → Writing → Type 0
 IsReasoned held words status out =
     IfSome held (λ files. status ≡ 5 →
     (text : List ℕ) × (GivesReason words files text ⊎ GivesFewestReason words files text) × Took out text)
 
--- The words ask for a search for the fewest NENs of a file that is held, not too long and accepted, with as many cards as ballots if they
--- give a number. Its contest is decided, and there are as many sets as are needed.
+-- The words ask for a search for the fewest NENs over a file that is held, not too long and accepted. If they give a number of cards,
+-- there are at least as many cards as ballots. The contest is decided, and there are as many sets as are needed.
 pub record IsFewestSearchable (words : List (List ℕ)) (files : List File) : Type 0 where
   pub ballots : BallotFile
   pub winner : ℕ
@@ -143,7 +143,7 @@ pub record IsFewestSearchable (words : List (List ℕ)) (files : List File) : Ty
   pub is_short : length asks.bytes ≤ limit
   pub budget : fewest_sets_of ballots winner ≤ asks.search.task.sets
 
--- Such a search ends with its assertions or with a reason for a full count, if memory was found and no count of faults rose.
+-- If memory was found and no count of faults rose, a search like this ends with its assertions or with a reason for a full count.
 abbrev pub IsFewestComplete : Option (List File) → List (List ℕ) → Type 0 → ℕ → Writing → Writing →
     Type 0
 IsFewestComplete held words failed status out err =

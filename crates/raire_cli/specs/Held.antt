@@ -1,4 +1,4 @@
--- What a file of the words holds and says.
+-- What a file that the words name holds and says.
 use Rattle.std.specs.Prelude.{◌≡◌, ◌≤◌, ℕ, List, length, Option, Some, Result, Ok}
 use Rattle.desk.specs.Desk.{File, held_bytes}
 use Rattle.irv_base.specs.Names.{Id}
@@ -10,7 +10,7 @@ use Rattle.claims_file.specs.Claimed.{Claimed}
 use Rattle.claims_file.specs.Reading.{claims_of}
 use Rattle.cli_base.specs.Script.{limit}
 
--- a file of this name is held and not too long, and this is read of it
+-- a file with this name is held and not too long, and this value is read from it
 pub record Says {A Why : Type 0} (files : List File) (name : List ℕ)
     (read : List ℕ → Result A Why) (value : A) : Type 0 where
   pub bytes : List ℕ
@@ -18,7 +18,7 @@ pub record Says {A Why : Type 0} (files : List File) (name : List ℕ)
   pub is_short : length bytes ≤ limit
   pub is : read bytes ≡ Ok value
 
--- a ballot file says this of the contest
+-- a ballot file says this about the contest
 abbrev pub AreBallots : List File → List ℕ → Option Id → BallotFile → Type 0
 AreBallots files name contest ballots =
     Says files name (λ bytes. ballots_of bytes contest) ballots

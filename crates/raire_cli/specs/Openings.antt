@@ -1,4 +1,4 @@
--- What it means that the session of an audit is opened.
+-- What it means for the session of an audit to be opened.
 use Rattle.std.specs.Prelude.{◌≡◌, ℕ, List, length, Option, IfSome}
 use Rattle.desk.specs.Desk.{File}
 use Rattle.manifest.specs.Cards.{cards_of}
@@ -10,7 +10,7 @@ use Rattle.command_line.specs.declared.commands.Command.TheVariants.{Open}
 use Rattle.raire_cli.specs.Asks.{Asks}
 use Rattle.raire_cli.specs.Basis.{AreHeld, Basis, BelongTogether, FileBytes, FileNames, Say, digests_of}
 
--- the names of the files that it is to be about
+-- the names of the files that the session is to be about
 abbrev pub names_of : OpenTask → FileNames
 names_of task =
     record { ballots = task.ballots; manifest = task.manifest; assertions = task.assertions }
@@ -25,8 +25,8 @@ pub record Opens (words : List (List ℕ)) (files : List File) (session : Conten
   pub basis : Basis
   pub say : Say asks.task.contest bytes basis
   pub together : BelongTogether basis
-  -- it has the contest and the margins of the assertion file, the cards of the manifest, the seed, the limit and the gamma of the words,
-  -- the digests of the files, and no rounds
+  -- it has the assertion file's contest and margins, the manifest's cards, the seed, limit and gamma that the words give, the files' digests,
+  -- and no rounds
   pub is : session ≡ begun basis.file.contest (length (cards_of basis.batches)) basis.file asks.task.seed
       asks.task.limit asks.task.gamma (digests_of bytes)
 

@@ -1,4 +1,4 @@
--- What it means that the session of an audit of a plurality contest is opened, and that it goes on.
+-- What it means for the session of an audit of a plurality contest to be opened and to continue.
 use Rattle.std.specs.Prelude.{◌≡◌, ◌⊎◌, ◌↔◌, ℕ, List, [], length, Option, None, IfSome, Ok, IsTrue}
 use Rattle.sha2.specs.Sha256.{sha256}
 use Rattle.desk.specs.Desk.{File}
@@ -26,7 +26,7 @@ use Rattle.raire_cli.specs.RoundFiles.{AreRoundFiles, RoundBytes, RoundInputs, S
 
 -- ---- the contest and its cards
 
--- there is no assertion file: its digest is that of no bytes
+-- there is no assertion file, so its digest is that of no bytes
 abbrev pub digests_of : CardBytes → Digests
 digests_of bytes =
     record {
@@ -35,13 +35,13 @@ digests_of bytes =
       assertions = sha256 [];
     }
 
--- the ballots, the cards, and who has won by first preferences, with the margins
+-- the ballots, the cards, and the winner by first preferences with the margins
 pub record Counted : Type 0 where
   pub ballots : BallotFile
   pub batches : Batches
   pub outcome : Outcome
 
--- the bytes say so, for this contest, or for the only one if none is named
+-- the bytes say this, for this contest, or for the only one if none is named
 pub record SayCounted (contest : Option Id) (bytes : CardBytes) (counted : Counted) : Type 0 where
   pub ballots : ballots_of bytes.ballots contest ≡ Ok counted.ballots
   pub manifest : manifest_of bytes.manifest ≡ Ok counted.batches
@@ -50,7 +50,7 @@ pub record SayCounted (contest : Option Id) (bytes : CardBytes) (counted : Count
   -- the winner has strictly more first preferences than each other candidate
   pub wins : WinsPlurality (length counted.ballots.candidates) counted.ballots.rankings
       counted.outcome.winner
-  -- the losers are all others, and the margins are the differences
+  -- the losers are all the other candidates, and the margins are the differences
   pub outcome : outcome_of (length counted.ballots.candidates) counted.ballots.rankings
       ≡ Ok counted.outcome
 
@@ -64,23 +64,23 @@ pub record OpensPlurality (words : List (List ℕ)) (files : List File)
   pub held : AreCardFiles asks.task.ballots asks.task.manifest files bytes
   pub counted : Counted
   pub say : SayCounted asks.task.contest bytes counted
-  -- it has the contest, the cards, the margins of the count, the seed, the limit and the gamma of the words, the digests, and no rounds
+  -- it has the contest, the cards, the margins of the count, the seed, limit and gamma that the words give, the digests, and no rounds
   pub is : session
       ≡ begun_with counted.ballots.contest (length (cards_of counted.batches))
       counted.outcome.margins asks.task.seed asks.task.limit asks.task.gamma (digests_of bytes)
 
--- ---- a session goes on
+-- ---- a session continues
 
 module _ (inputs : RoundInputs Counted) where
-  -- what is recorded of each card
+  -- what is recorded for each card
   abbrev pub recorded : List Recorded
   recorded = linked_of inputs.basis.batches inputs.basis.ballots
 
-  -- that the winner has more first preferences, for each loser
+  -- for each loser, the claim that the winner has more first preferences
   abbrev pub claims : List Audited
   claims = claims_of inputs.basis.outcome
 
--- the session of the words goes on, and then is this
+-- the session that the words name continues, and this is the session afterward
 pub record PluralGoesOn (words : List (List ℕ)) (files : List File)
     (next : Content) : Type 0 where
   pub asks : Asks AuditPlurality words
@@ -89,14 +89,14 @@ pub record PluralGoesOn (words : List (List ℕ)) (files : List File)
       (AreCardFiles asks.task.ballots asks.task.manifest) files bytes
   pub inputs : RoundInputs Counted
   pub say : SayRound SayCounted inputs.basis.batches inputs.basis.ballots.candidates bytes inputs
-  -- the session has the digests of the files, and their cards, contest and margins
+  -- the session has the files' digests, cards, contest and margins
   pub of_files : IsOf inputs.session (digests_of bytes.basis)
       (length (cards_of inputs.basis.batches)) inputs.basis.ballots.contest
       inputs.basis.outcome.margins
   pub is_next : IsNextRound inputs.session (recorded inputs) inputs.entries (claims inputs)
       asks.task.draws next
 
--- after some of its draws the exact risk of each claim was within the limit
+-- for each claim, the exact risk was within the limit after some number of the draws
 abbrev pub WerePluralWithin : {words : List (List ℕ)} {files : List File} {next : Content} →
     PluralGoesOn words files next → Type 0
 WerePluralWithin on =
@@ -105,14 +105,14 @@ WerePluralWithin on =
 
 -- ---- what `run` promises
 
--- Status 0 if a plurality session is to be opened: `out` has the session that the words open.
+-- Status 0 when the words open a plurality session: `out` has this session.
 abbrev pub IsPluralityOpened : Option (List File) → List (List ℕ) → ℕ → Writing → Type 0
 IsPluralityOpened held words status out =
     IfSome held (λ files. Asks OpenPlurality words → status ≡ 0 →
     (session : Content) × OpensPlurality words files session × Took out (session_text session))
 
--- Status 0 and 10 of a round: `out` has the session with one round more, which is that of its files. It is 0 exactly if the session is
--- signed off. Then the exact risk of each claim was within the limit.
+-- Statuses 0 and 10 of a round: `out` has the session with one more round, which is the round of its files. The status is 0 exactly when
+-- the session is signed off. In that case the exact risk of each claim was within the limit.
 abbrev pub IsPluralityAudited : Option (List File) → List (List ℕ) → ℕ → Writing → Type 0
 IsPluralityAudited held words status out =
     IfSome held (λ files. Asks AuditPlurality words → (status ≡ 0) ⊎ (status ≡ 10) →

@@ -1,4 +1,4 @@
--- What it means that a plurality contest has a tie.
+-- What it means for a plurality contest to have a tie.
 use Rattle.std.specs.Prelude.{◌≡◌, ◌⊎◌, ℕ, List, length, Some}
 use Rattle.desk.specs.Desk.{File, held_bytes}
 use Rattle.ballots.specs.Ballots.{BallotFile}
@@ -25,8 +25,8 @@ pub record RoundOf (words : List (List ℕ)) (files : List File) (ballots : Ball
   pub said : session_of bytes ≡ Some session
   pub are : AreBallots files asks.task.ballots (Some session.contest) ballots
 
--- this names those who share the greatest number of first preferences in the contest of the words, and that number, as the tie of a first
--- round
+-- this text names the candidates who share the greatest number of first preferences in the contest that the words ask about, and that
+-- number, as the tie of a first round
 pub record TellsPluralityTie (words : List (List ℕ)) (files : List File)
     (text : List ℕ) : Type 0 where
   pub ballots : BallotFile

@@ -1,4 +1,4 @@
--- What it means that a poll confirms the claims of an assertion file, by what is seen of drawn cards alone.
+-- What it means for a poll to confirm the claims of an assertion file, using only what is seen of drawn cards.
 use Rattle.std.specs.Prelude.{◌≡◌, ◌⊎◌, ◌↔◌, ℕ, Bool, List, length, map, All, Option, None, Some, IfSome, Ok, IsTrue}
 use Rattle.desk.specs.Desk.{File, held_bytes}
 use Rattle.assertion_file.specs.Content.{Content, candidate_count}
@@ -20,15 +20,15 @@ use Rattle.command_line.specs.declared.commands.Command.TheVariants.{Poll}
 use Rattle.poll_command.specs.Poll.{poll_text}
 use Rattle.raire_cli.specs.Asks.{Asks}
 
--- ---- its files
+-- ---- the files
 
--- the bytes of its three files
+-- the bytes of the three files
 pub record PollBytes : Type 0 where
   pub manifest : List ℕ
   pub assertions : List ℕ
   pub seen : List ℕ
 
--- the files of the words are held, and have these bytes
+-- the files that the words name are held, and have these bytes
 pub record ArePollFiles (task : PollTask) (files : List File) (bytes : PollBytes) : Type 0 where
   pub manifest : held_bytes task.manifest files ≡ Some bytes.manifest
   pub assertions : held_bytes task.assertions files ≡ Some bytes.assertions
@@ -40,7 +40,7 @@ pub record PollInputs : Type 0 where
   pub file : Content
   pub entries : List Entry
 
--- the bytes say so
+-- the bytes say this
 pub record SayPoll (bytes : PollBytes) (inputs : PollInputs) : Type 0 where
   pub manifest : manifest_of bytes.manifest ≡ Ok inputs.batches
   pub assertions : assertion_file_of bytes.assertions ≡ Ok inputs.file
@@ -56,13 +56,13 @@ module _ (task : PollTask) (inputs : PollInputs) where
   abbrev pub drawn : ℕ → List ℕ
   drawn draws = drawn_cards task.seed cards draws
 
-  -- the printed risk of each claim, of what is seen of the drawn cards, is within the limit
+  -- for each claim, the printed risk that follows from what is seen of the drawn cards is within the limit
   abbrev pub confirms : Bool
   confirms =
       is_confirmed task.limit task.gamma (values_of inputs.file) (all_seen inputs.entries cards)
       (drawn task.draws)
 
-  -- the exact risk of each claim, of what is seen of the drawn cards, is within the limit
+  -- for each claim, the exact risk that follows from what is seen of the drawn cards is within the limit
   abbrev pub WereWithin : Type 0
   WereWithin = All
       (λ value. IsTrue (is_within 1 1 task.gamma task.limit
@@ -70,20 +70,20 @@ module _ (task : PollTask) (inputs : PollInputs) where
       (drawn task.draws))))
       (values_of inputs.file)
 
--- the poll of the words
+-- the poll that the words ask for
 pub record IsPollOf (words : List (List ℕ)) (files : List File) : Type 0 where
   pub asks : Asks Poll words
   pub bytes : PollBytes
   pub held : ArePollFiles asks.task files bytes
   pub inputs : PollInputs
   pub say : SayPoll bytes inputs
-  -- the claims refute each order that elects another candidate than the file says
+  -- the claims refute every order that elects a candidate other than the file's winner
   pub cover : Cover (candidate_count inputs.file) inputs.file.winner (claimed inputs.file)
   -- each drawn card has a record of what is seen
   pub all_told :
       unseen_draw asks.task.seed (cards asks.task inputs) inputs.entries asks.task.draws ≡ None
 
--- its counts and risks, as they are printed
+-- the poll's counts and risks, as they are printed
 abbrev pub told_of : {words : List (List ℕ)} {files : List File} → IsPollOf words files → List ℕ
 told_of poll =
     poll_text poll.asks.task poll.inputs.batches poll.inputs.file poll.inputs.entries
@@ -98,8 +98,8 @@ WereAllWithin poll = WereWithin poll.asks.task poll.inputs
 
 -- ---- what `run` promises
 
--- Status 0 and 10 of a poll: `out` has the result of the poll of the words and files. It is 0 exactly if that confirms each claim. Then the
--- exact risk of each claim is within the limit.
+-- Statuses 0 and 10 of a poll: `out` has the result of the poll of the words and files. The status is 0 exactly when the poll confirms every
+-- claim. In that case the exact risk of each claim is within the limit.
 abbrev pub IsPolled : Option (List File) → List (List ℕ) → ℕ → Writing → Type 0
 IsPolled held words status out =
     IfSome held (λ files. Asks Poll words → (status ≡ 0) ⊎ (status ≡ 10) →

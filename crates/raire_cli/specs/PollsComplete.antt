@@ -1,4 +1,4 @@
--- Which polls end with what came of them.
+-- Which polls end with their result.
 use Rattle.std.specs.Prelude.{◌≡◌, ◌⊎◌, ℕ, List, Option, None, IfSome}
 use Rattle.desk.specs.Desk.{File}
 use Rattle.manifest.specs.Manifest.{manifest_of}
@@ -15,8 +15,8 @@ use Rattle.raire_cli.specs.Held.{Says}
 use Rattle.raire_cli.specs.Polls.{PollInputs, cards}
 use Rattle.raire_cli.specs.PollsEach as each
 
--- the three files of a poll are held, not too long and accepted. With this many nodes it is known that the claims refute each order that
--- elects another candidate than the file says.
+-- The three files of a poll are held, not too long and accepted. With this many nodes it is known that the claims refute every order that
+-- elects a candidate other than the file's winner.
 pub record ArePollable (files : List File) (manifest assertions seen : List ℕ) (nodes : ℕ)
     (inputs : PollInputs) : Type 0 where
   pub of_manifest : Says files manifest manifest_of inputs.batches
@@ -24,7 +24,7 @@ pub record ArePollable (files : List File) (manifest assertions seen : List ℕ)
   pub of_seen : Says files seen (seen_of inputs.batches inputs.file.candidates) inputs.entries
   pub covered : uncovered nodes inputs.file ≡ None
 
--- The words ask for a poll of such files, and each drawn card has a record of what is seen.
+-- The words ask for a poll of files like these, and each drawn card has a record of what is seen.
 pub record IsPollable (words : List (List ℕ)) (files : List File) : Type 0 where
   pub asks : Asks Poll words
   pub inputs : PollInputs
@@ -33,7 +33,7 @@ pub record IsPollable (words : List (List ℕ)) (files : List File) : Type 0 whe
   pub all_told :
       unseen_draw asks.task.seed (cards asks.task inputs) inputs.entries asks.task.draws ≡ None
 
--- The words ask for a poll of such files with a look after each draw, and each card that is needed has a record of what is seen.
+-- The words ask for a poll of files like these with a look after each draw, and each card that is needed has a record of what is seen.
 pub record IsEachPollable (words : List (List ℕ)) (files : List File) : Type 0 where
   pub asks : Asks PollEach words
   pub inputs : PollInputs
@@ -47,7 +47,7 @@ pub record IsEachPollable (words : List (List ℕ)) (files : List File) : Type 0
 
 -- ---- what `run` promises
 
--- Each such poll ends with its result, if memory was found and no count of faults rose.
+-- If memory was found and no count of faults rose, every poll like these ends with its result.
 abbrev pub IsPollComplete : Option (List File) → List (List ℕ) → Type 0 → ℕ → Writing → Writing →
     Type 0
 IsPollComplete held words failed status out err =

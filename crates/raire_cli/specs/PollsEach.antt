@@ -1,4 +1,4 @@
--- What it means that a poll with a look after each draw confirms the claims of an assertion file, by what is seen of drawn cards alone.
+-- What it means for a poll with a look after each draw to confirm the claims of an assertion file, using only what is seen of drawn cards.
 use Rattle.std.specs.Prelude.{◌≡◌, ◌⊎◌, ◌↔◌, ℕ, ◌*◌, ◌<◌, ◌≤◌, Bool, List, length, take, All, Option, None, Some, IfSome, IsTrue}
 use Rattle.desk.specs.Desk.{File, held_bytes}
 use Rattle.assertion_file.specs.Content.{candidate_count}
@@ -18,7 +18,7 @@ use Rattle.poll_command.specs.Each.{each_text}
 use Rattle.raire_cli.specs.Asks.{Asks}
 use Rattle.raire_cli.specs.Polls.{PollBytes, PollInputs, SayPoll}
 
--- the files of the words are held, and have these bytes
+-- the files that the words name are held, and have these bytes
 pub record AreEachFiles (task : PollEachTask) (files : List File) (bytes : PollBytes) : Type 0 where
   pub manifest : held_bytes task.manifest files ≡ Some bytes.manifest
   pub assertions : held_bytes task.assertions files ≡ Some bytes.assertions
@@ -38,11 +38,11 @@ module _ (task : PollEachTask) (inputs : PollInputs) where
   abbrev pub seen : List Seen
   seen = all_seen inputs.entries cards
 
-  -- the claims of the file, each with the gamma of the words, or with the one that fits its margin
+  -- the claims of the file, each with the gamma that the words give, or with the one that fits its margin
   abbrev pub claims : List Polled
   claims = polled_of task.gamma cards inputs.file
 
-  -- what is seen of the first of the drawn cards counts so for a claim
+  -- how what is seen of the first of the drawn cards counts for a claim
   abbrev pub seen_values : Polled → ℕ → List ℕ
   seen_values claim draws = take draws (values_of seen (drawn task.draws) claim)
 
@@ -50,7 +50,7 @@ module _ (task : PollEachTask) (inputs : PollInputs) where
   abbrev pub confirmed_by : Polled → Option ℕ
   confirmed_by claim = confirmed_at task.limit claim.gamma (values_of seen (drawn task.draws) claim)
 
-  -- it is the first draw after which the printed risk is within the limit, and there the exact risk is too
+  -- this is the first draw after which the printed risk is within the limit, and at that draw the exact risk is too
   pub record IsFirst (claim : Polled) (draw : ℕ) : Type 0 where
     pub some : 1 ≤ draw
     pub among : draw ≤ task.draws
@@ -59,27 +59,27 @@ module _ (task : PollEachTask) (inputs : PollInputs) where
     pub not_before : (k : ℕ) → 1 ≤ k → k < draw →
         task.limit * MILLIONTH < risk_as_drawn 1 1 claim.gamma (seen_values claim k)
 
-  -- a draw confirms each claim
+  -- each claim is confirmed by some draw
   abbrev pub confirms : Bool
   confirms = is_each_confirmed task.limit claims seen (drawn task.draws)
 
--- the poll of the words
+-- the poll that the words ask for
 pub record IsEachPollOf (words : List (List ℕ)) (files : List File) : Type 0 where
   pub asks : Asks PollEach words
   pub bytes : PollBytes
   pub held : AreEachFiles asks.task files bytes
   pub inputs : PollInputs
   pub say : SayPoll bytes inputs
-  -- the claims refute each order that elects another candidate than the file says
+  -- the claims refute every order that elects a candidate other than the file's winner
   pub cover : Cover (candidate_count inputs.file) inputs.file.winner (claimed inputs.file)
-  -- each card that is needed has a record of what is seen: up to the draw that confirms the last claim, or all
+  -- each card that is needed has a record of what is seen; these are the cards up to the draw that confirms the last claim, or all of them
   pub all_told :
       unseen_draw asks.task.seed (cards asks.task inputs) inputs.entries
       (asked asks.task.limit (claims asks.task inputs) (seen asks.task inputs)
       (drawn asks.task inputs asks.task.draws))
       ≡ None
 
--- its counts and risks, as they are printed
+-- the poll's counts and risks, as they are printed
 abbrev pub told_of : {words : List (List ℕ)} {files : List File} →
     IsEachPollOf words files → List ℕ
 told_of poll =
@@ -89,7 +89,7 @@ abbrev pub is_confirmed_by : {words : List (List ℕ)} {files : List File} →
     IsEachPollOf words files → Bool
 is_confirmed_by poll = confirms poll.asks.task poll.inputs
 
--- of each claim the draw that confirms it, if one does, is the first that could
+-- for each claim, the draw that confirms it, if there is one, is the first that could
 abbrev pub AreFirst : {words : List (List ℕ)} {files : List File} →
     IsEachPollOf words files → Type 0
 AreFirst poll = All
@@ -99,9 +99,9 @@ AreFirst poll = All
 
 -- ---- what `run` promises
 
--- Status 0 and 10 of a poll with a look after each draw: `out` has the poll of the words and files. It is 0 exactly if a draw
--- confirms each claim. A claim is confirmed by the first draw after which its printed risk is within the limit, and there its exact risk
--- is too.
+-- Statuses 0 and 10 of a poll with a look after each draw: `out` has the poll of the words and files. The status is 0 exactly when each
+-- claim is confirmed by some draw. A claim is confirmed by the first draw after which its printed risk is within the limit, and at that draw
+-- its exact risk is too.
 abbrev pub IsPolledEach : Option (List File) → List (List ℕ) → ℕ → Writing → Type 0
 IsPolledEach held words status out =
     IfSome held (λ files. Asks PollEach words → (status ≡ 0) ⊎ (status ≡ 10) →

@@ -28,7 +28,7 @@ pub record AreRoundFiles {Bytes : Type 0} (session_name seen_name : List ℕ)
   pub basis : AreHeld files bytes.basis
   pub seen : held_bytes seen_name files ≡ Some bytes.seen
 
--- the bytes say so, of the session's contest, with these cards and the ids of these candidates
+-- the bytes say this about the session's contest, with these cards and the ids of these candidates
 pub record SayRound {Bytes Basis : Type 0} (Say : Option Id → Bytes → Basis → Type 0)
     (batches : Batches) (candidates : List Id) (bytes : RoundBytes Bytes)
     (inputs : RoundInputs Basis) : Type 0 where

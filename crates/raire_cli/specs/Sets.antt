@@ -1,4 +1,4 @@
--- When a number of sets is spent: exactly if more sets count.
+-- When a number of sets runs out: exactly when more sets count.
 use Rattle.std.specs.Prelude.{◌≡◌, ◌≢◌, ◌⊎◌, ◌≤◌, ◌<◌, ◌-◌, ◌^◌, ℕ, List, Option, None, Some, IfSome, Ok, Err, IsTrue}
 use Rattle.std.specs.List.{list_all}
 use Rattle.desk.specs.Desk.{File}
@@ -34,23 +34,23 @@ use Rattle.raire_cli.specs.Budgets.{budget_of, start_of}
 use Rattle.raire_cli.specs.Held.{AreBallots, AreChecked, AreClaimed, Says}
 use Rattle.raire_cli.specs.Undecided.{IsAbout}
 
--- ---- more sets count than there are
+-- ---- more sets count than the budget has
 
--- a search of the contest needs more, and the order that it starts with doesn't show that the contest isn't decided
+-- a search of the contest needs more sets, and the order that it starts with doesn't show that the contest isn't decided
 pub record NeedsMore (sets : ℕ) (ballots : BallotFile) : Type 0 where
   pub winner : ℕ
   pub won : IsWon ballots winner
   pub above : sets < sets_of ballots winner
   pub some : 1 ≤ start_of ballots won.order
 
--- a search for the fewest NENs needs more, and the order that it starts with doesn't show that the contest isn't decided
+-- a search for the fewest NENs needs more sets, and the order that it starts with doesn't show that the contest isn't decided
 pub record FewestNeedMore (sets : ℕ) (ballots : BallotFile) : Type 0 where
   pub winner : ℕ
   pub won : IsWon ballots winner
   pub above : sets < fewest_sets_of ballots winner
   pub some : 1 ≤ start_of ballots won.order
 
--- the file is about the contest and its winner, no claim has another margin, and more sets count of the orders that its claims don't
+-- the file is about the contest and its winner, no claim has a different margin, and more sets count among the orders that its claims don't
 -- refute
 pub record CountsMore (sets : ℕ) (ballots : BallotFile) (file : Content) : Type 0 where
   pub about : IsTrue (is_about ballots file)
@@ -58,13 +58,13 @@ pub record CountsMore (sets : ℕ) (ballots : BallotFile) (file : Content) : Typ
   pub margins : other_margin ballots.rankings file ≡ None
   pub above : sets < standing_sets (count_in file) file.winner (assertions_of file)
 
--- a check accepts the file, and without the claim of some number more sets count
+-- a check accepts the file, and without one of its claims more sets count
 pub record TrialCountsMore (sets : ℕ) (ballots : BallotFile) (file : Content) : Type 0 where
   pub accepted : IsAnswer (Sets sets) ballots file (Ok Accepted)
   pub claim : ℕ
   pub spent : trimmed (Sets sets) file ≡ Err (SpentSets claim sets)
 
--- the claims are about the winner of the contest, all of them are true, and more sets count of the orders that they don't refute
+-- the claims are about the winner of the contest, all of them are true, and more sets count among the orders that they don't refute
 pub record ClaimsCountMore (sets : ℕ) (ballots : BallotFile) (claims : Claimed) : Type 0 where
   pub won : IsWon ballots claims.winner
   pub hold : IsTrue (list_all (is_true ballots.rankings) claims.assertions)
@@ -73,7 +73,7 @@ pub record ClaimsCountMore (sets : ℕ) (ballots : BallotFile) (claims : Claimed
 
 -- ---- the files of a command that judges an assertion file
 
--- for a session that is opened: each ballot has a card
+-- the files of a session that is opened; each ballot has a card
 pub record AreOpened (files : List File) (task : OpenTask) (ballots : BallotFile)
     (file : Content) : Type 0 where
   pub of_ballots : AreBallots files task.ballots task.contest ballots
@@ -81,7 +81,8 @@ pub record AreOpened (files : List File) (task : OpenTask) (ballots : BallotFile
   pub of_manifest : Says files task.manifest (cards_for task.ballots ballots task.manifest) batches
   pub of_assertions : Says files task.assertions assertion_file_of file
 
--- for a round: the session goes on up to this number of draws, the other files are those that it is about, and each ballot has a card
+-- the files of a round; the session continues up to this number of draws, the other files are those that it is about, and each ballot has a
+-- card
 pub record AreOfRound (files : List File) (task : AuditTask) (ballots : BallotFile)
     (file : Content) : Type 0 where
   pub session : Session
@@ -94,7 +95,8 @@ pub record AreOfRound (files : List File) (task : AuditTask) (ballots : BallotFi
 
 -- ---- each command that may have a number of sets
 
--- a search or a trial needs more, or more count in the check of an assertion file, once all that is judged before it was accepted
+-- a search or a trial needs more sets, or more sets count in the check of an assertion file, after everything that is judged before the
+-- check was accepted
 abbrev pub MoreCount : List File → Command → ℕ → Type 0
 MoreCount files (Search task) sets =
     (ballots : BallotFile) × IsAbout files (Search task) ballots × NeedsMore sets ballots
@@ -123,13 +125,13 @@ MoreCount files _ sets = ⊥
 
 -- ---- what `run` promises
 
--- Status 4 of a command with a number of sets comes exactly if more sets count.
+-- Status 4 of a command with a number of sets occurs exactly when more sets count.
 abbrev pub IsSpentBySets : Option (List File) → List (List ℕ) → ℕ → Type 0
 IsSpentBySets held words status = IfSome held (λ files. (command : Command) (sets : ℕ) →
     command_of words ≡ Some command → budget_of command ≡ Sets sets →
     Exactly 4 status (MoreCount files command sets))
 
--- With 2^n - 3 sets a search or a trial of n candidates isn't spent.
+-- With at least 2^n - 3 sets, a search or a trial of n candidates doesn't run out of budget.
 abbrev pub IsNeverSpentBySets : Option (List File) → List (List ℕ) → ℕ → Type 0
 IsNeverSpentBySets held words status =
     IfSome held (λ files. (command : Command) (ballots : BallotFile) (sets : ℕ) →

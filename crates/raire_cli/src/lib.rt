@@ -1,4 +1,4 @@
-//! The top call of the suite: a command line goes in with the files that it names, a status and texts come out.
+//! The top call of the suite. A command line and the files that it names go in; a status and texts come out.
 #![tactic(auto)]
 
 mod call;

@@ -4,7 +4,7 @@ use Rattle.std.proofs.lemmas.List.{drop_more}
 use Rattle.report.specs.Claims.{claim_lines}
 
 module _ {A Counts : Type 0} (line : A → Counts → ℕ → List ℕ) (claims : List A) (counts : List Counts) (risks : List ℕ) where
-  -- those of the claims from index j on
+  -- the lines of the claims from index j on
   abbrev pub lines_from : ℕ → List ℕ
   lines_from j = claim_lines line (drop j claims) (drop j counts) (drop j risks)
 

@@ -1,4 +1,4 @@
--- Zeros in front of a number.
+-- The leading zeros of a number.
 use Rattle.std.proofs.Common.{◌≡◌, ℕ, ◌-◌, ◌^◌, false, List, [], ◌++◌, length, replicate, arith, append-nil, refl}
 use Rattle.std.specs.Fmt.{char_count, format_spec, padded_integral}
 

@@ -40,7 +40,7 @@ take-none : (n : ℕ) (xs : List ℕ) → xs ≡ [] → take n xs ≡ xs
 take-none zero xs e = sym e
 take-none (suc n) xs e = ap (take (suc n)) e ∙ sym e
 
--- a slice from place i on
+-- a slice from index i on
 pub take-rest : (i : ℕ) (xs : List ℕ) → take (length xs - i) (drop i xs) ≡ drop i xs
 take-rest zero [] = refl
 take-rest zero (x ∷ xs) =
@@ -63,7 +63,7 @@ all_told ids i order rounds text whole end same =
     ∙ sym (ap (λ cs. text ++ rounds_text ids (i + 1) (drop i order) cs) none ∙ ap (λ t. text ++ t) (no-rounds ids (i + 1) (drop i order)))
     ∙ same
 
--- ---- of a tabulation
+-- ---- the lines of a tabulation
 rounds-fewer : (n : ℕ) (records : List (List ℕ)) (order : List ℕ) → 1 ≤ length order → length (rounds_of n records order) < length order
 rounds-fewer n records [] some = absurd (omega arith)
 rounds-fewer n records (c ∷ []) some = omega arith

@@ -1,4 +1,4 @@
--- Lists of candidates and of their ids, one more at a time.
+-- Lists of candidates and of their ids, one element at a time.
 use Rattle.std.proofs.Common.{◌≡◌, ◌==◌, ℕ, zero, suc, ◌+◌, ◌<◌, ◌≤◌, Bool, true, false, cond, if◌then◌else◌, List, [], ◌∷◌, ◌++◌, length, filter, take, get_or, All, refl, sym, ap, ap₂, arith, append_assoc, append-nil, eq-eqb, ne_eqb, ◌∙◌}
 use Rattle.std.proofs.lemmas.List.{get_or_default, length-map, map-append, take_more}
 use Rattle.std.proofs.lemmas.List.Elements.{filter-append}

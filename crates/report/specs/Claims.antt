@@ -1,9 +1,9 @@
--- The lines of claims, one after the other.
+-- The lines of claims, in order.
 use Rattle.std.specs.Prelude.{ℕ, List, [], ◌∷◌, ◌++◌}
 
--- what is printed of a claim with its counts, of whichever kind, and its risk
+-- the line of a claim of any kind, with its counts and its risk
 module _ {A Counts : Type 0} (line : A → Counts → ℕ → List ℕ) where
-  -- for each claim
+  -- the lines of all claims
   abbrev pub claim_lines : List A → List Counts → List ℕ → List ℕ
   claim_lines [] counts risks = []
   claim_lines (claim ∷ claims) [] risks = []

@@ -1,4 +1,4 @@
--- How a contest ends without a certificate: its first tie, or a budget that is spent.
+-- How a contest ends without a certificate: with its first tie, or with a budget that runs out.
 use Rattle.std.specs.Prelude.{ℕ, List, ◌++◌, codes}
 use Rattle.std.specs.Fmt.{decimal}
 use Rattle.irv_base.specs.Names.{Id}
@@ -12,11 +12,11 @@ tie_lines round tied votes =
     codes "tie\nround " ++ decimal round ++ codes "\ntied " ++ tied ++ codes "\ntally "
     ++ decimal votes ++ codes "\n"
 
--- the round, from 1, those who share the least tally in it, and that tally
+-- the round, counted from 1, the candidates who share the smallest tally in it, and that tally
 abbrev pub tie_text : List Id → ℕ → ℕ → ℕ → List ℕ
 tie_text ids round tied votes = tie_lines round (set_text ids tied) votes
 
--- ---- a budget that is spent
+-- ---- a budget that runs out
 
 -- at the candidate with this id
 abbrev pub spent_at : List ℕ → List ℕ
@@ -36,10 +36,10 @@ spent_sets_lines sets order margin =
     codes "spent\nsets " ++ decimal sets ++ codes "\norder " ++ order ++ codes "\nmargin "
     ++ decimal margin ++ codes "\n"
 
--- with this many sets, the order that a search starts with, and its hardness
+-- with this many sets; the order that a search starts with, and its hardness
 abbrev pub spent_sets_text : List Id → ℕ → List ℕ → ℕ → List ℕ
 spent_sets_text ids sets order margin = spent_sets_lines sets (order_text ids order) margin
 
--- at this candidate, with the order that was best so far, and its hardness
+-- at this candidate; the best order so far, and its hardness
 abbrev pub spent_text : List Id → ℕ → List ℕ → ℕ → List ℕ
 spent_text ids last order margin = spent_lines (id_of ids last) (order_text ids order) margin

@@ -7,7 +7,7 @@ use Rattle.km_risk.specs.declared.draws.Counts.{Counts}
 abbrev pub three_names : List Id
 three_names = codes "1" ∷ codes "2" ∷ codes "3" ∷ []
 
--- five ballots 1, four 2,3 and three 3,2
+-- five ballots rank 1, four rank 2,3 and three rank 3,2
 abbrev pub three_candidates : BallotFile
 three_candidates = record {
   contest = codes "1";
@@ -17,7 +17,7 @@ three_candidates = record {
   rankings = replicate 5 (0 ∷ []) ++ replicate 4 (1 ∷ 2 ∷ []) ++ replicate 3 (2 ∷ 1 ∷ []);
 }
 
--- four ballots B, three C, and one each of D,C and D and A,B
+-- four ballots rank B, three rank C, one ranks D,C, one ranks D, and one ranks A,B
 abbrev pub county : BallotFile
 county = record {
   contest = codes "county";
@@ -28,6 +28,6 @@ county = record {
       replicate 4 (1 ∷ []) ++ replicate 3 (2 ∷ []) ++ (3 ∷ 2 ∷ []) ∷ (3 ∷ []) ∷ (0 ∷ 1 ∷ []) ∷ [];
 }
 
--- five draws, two of which have discrepancy 1
+-- five draws, of which two have discrepancy 1
 abbrev pub two_of_five : Counts
 two_of_five = record { n0 = 0; n1 = 2; n2 = 3; n3 = 0; n4 = 0 }

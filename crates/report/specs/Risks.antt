@@ -1,4 +1,4 @@
--- What is printed of an audit: for a claim its risk, its counts and whether it is confirmed, and whether the audit is signed off.
+-- What is printed about an audit: each claim's risk, its counts, and whether it is confirmed; and whether the audit is signed off.
 use Rattle.std.specs.Prelude.{ℕ, ◌-◌, ◌/◌, ◌%◌, Bool, true, false, List, ◌++◌, length, replicate, codes}
 use Rattle.std.specs.Fmt.{decimal}
 use Rattle.km_risk.specs.declared.limits.TheConstants.{ONE}
@@ -7,11 +7,11 @@ use Rattle.km_risk.specs.declared.draws.Counts.{Counts}
 abbrev pub zero_digit : ℕ
 zero_digit = 0x30
 
--- a number in this many digits, with zeros in front
+-- a number with this many digits, with leading zeros
 abbrev pub in_digits : ℕ → ℕ → List ℕ
 in_digits digits n = replicate (digits - length (decimal n)) zero_digit ++ decimal n
 
--- the units of a risk, divided by those of one: 18 digits after the point
+-- the units of a risk divided by the units of one, with 18 digits after the point
 abbrev pub risk_text : ℕ → List ℕ
 risk_text units = decimal (units / ONE) ++ codes "." ++ in_digits 18 (units % ONE)
 
@@ -32,6 +32,6 @@ abbrev pub yes_or_no : Bool → List ℕ
 yes_or_no true = codes "yes"
 yes_or_no false = codes "no"
 
--- whether an audit is done
+-- the line that says whether an audit is done
 abbrev pub signed_off_line : Bool → List ℕ
 signed_off_line signed_off = codes "signed off " ++ yes_or_no signed_off ++ codes "\n"

@@ -1,17 +1,17 @@
--- Candidates, orders and assertions, printed by the ids of a contest's candidates.
+-- Candidates, orders and assertions, printed with the ids of a contest's candidates.
 use Rattle.std.specs.Prelude.{ℕ, List, [], ◌∷◌, ◌++◌, codes}
 use Rattle.irv_base.specs.Names.{Id, comma}
 use Rattle.assertions.specs.declared.assertion.Assertion.{Assertion}
 use Rattle.assertions.specs.declared.assertion.Assertion.TheVariants.{Neb, Nen}
 use Rattle.assertion_file.specs.Ids.{id_of, ids_of, ids_in}
 
--- the ids with a comma between each two
+-- the ids, separated by commas
 abbrev pub joined : List Id → List ℕ
 joined [] = []
 joined (id ∷ []) = id
 joined (id ∷ next ∷ rest) = id ++ comma ∷ joined (next ∷ rest)
 
--- the ids of an order's candidates, first eliminated first
+-- the ids of an order's candidates, with the first eliminated first
 abbrev pub order_text : List Id → List ℕ → List ℕ
 order_text ids order = joined (ids_of ids order)
 

@@ -1,4 +1,4 @@
-// How a contest ends without a certificate: its first tie, or a budget that is spent.
+// How a contest ends without a certificate: with its first tie, or with a budget that runs out.
 ghost use Rattle.std.specs.Prelude.{◌≡◌, ◌<◌, ◌≤◌, length, IfOk, IsTrue, string_bytes};
 ghost use Rattle.irv_base.specs.Orders.{is_order};
 ghost use Rattle.irv_base.specs.declared.limits.TheConstants.{ROOM};
@@ -9,8 +9,8 @@ use assertion_file::id_of;
 use irv_base::{CandSet, Candidate, Memory, Name, Order};
 use std::alloc::{AllocError, Global};
 
-/// The lines of a tie: its round, counted from 1, those who share the least tally in it, and that tally, in votes. Every line ends
-/// with a line feed.
+/// Returns the lines of a tie: its round, counted from 1, the candidates who share the smallest tally in it, and that tally, in votes. Every
+/// line ends with a line feed.
 pub fn tie_text(
     alloc: Global,
     names: &[Name],
@@ -25,22 +25,22 @@ pub fn tie_text(
     Ok(tie_lines(alloc, round, tied.as_str(), votes)?)
 }
 
-// `tied` has those who share the least tally.
+// `tied` names the candidates who share the smallest tally.
 fn tie_lines(alloc: Global, round: u32, tied: &str, votes: u32) -> Result<String, AllocError>
     ensures { IfOk result (λ text. string_bytes text ≡ tie_lines round tied.now votes) }
 {
     format!(in alloc; "tie\nround {round}\ntied {tied}\ntally {votes}\n")
 }
 
-/// The lines of a budget that is spent at the candidate with this id. Each ends with a line feed.
+/// Returns the lines of a budget that runs out at the candidate with this id. Every line ends with a line feed.
 pub fn spent_at(alloc: Global, last: &str) -> Result<String, AllocError>
     ensures { IfOk result (λ text. string_bytes text ≡ spent_at last.now) }
 {
     format!(in alloc; "spent\ncandidate {last}\n")
 }
 
-/// The lines of a search that is spent at this candidate: its id, the order that was best so far, and the hardness of that order, in
-/// votes. Every line ends with a line feed.
+/// Returns the lines of a search that runs out of budget at this candidate: the candidate's id, the best order so far, and the hardness of
+/// that order, in votes. Every line ends with a line feed.
 pub fn spent_text(
     alloc: Global,
     names: &[Name],
@@ -63,15 +63,15 @@ fn spent_lines(alloc: Global, last: &str, order: &str, margin: u32) -> Result<St
     format!(in alloc; "spent\ncandidate {last}\norder {order}\nmargin {margin}\n")
 }
 
-/// The lines of a budget of this many sets that is spent. Each ends with a line feed.
+/// Returns the lines of a budget of this many sets that runs out. Every line ends with a line feed.
 pub fn spent_sets(alloc: Global, sets: u32) -> Result<String, AllocError>
     ensures { IfOk result (λ text. string_bytes text ≡ spent_sets sets) }
 {
     format!(in alloc; "spent\nsets {sets}\n")
 }
 
-/// The lines of a search for which this many sets aren't enough: the order that it starts with, and its hardness, in votes. Every line
-/// ends with a line feed.
+/// Returns the lines of a search for which this many sets aren't enough: the order that it starts with, and the hardness of that order, in
+/// votes. Every line ends with a line feed.
 pub fn spent_sets_text(
     alloc: Global,
     names: &[Name],

@@ -17,7 +17,7 @@ pub fn three_candidates()
         codes "winner 2\n" }
 {}
 
-/// Four candidates, and a ballot that is exhausted in the last round.
+/// Four candidates, with a ballot that is exhausted in the last round.
 pub fn county()
     ensures { tabulation_text examples.county (0 ∷ 3 ∷ 2 ∷ 1 ∷ []) 1 ≡
         codes "contest county\nrecords 10\n" ++
@@ -27,7 +27,7 @@ pub fn county()
         codes "winner B\n" }
 {}
 
-/// An order, a set and both kinds of assertion.
+/// An order, a set, and both kinds of assertion.
 pub fn three_names()
     ensures order { order_text examples.three_names (1 ∷ 0 ∷ 2 ∷ []) ≡ codes "2,1,3" }
     ensures set { set_text examples.three_names 5 ≡ codes "1,3" }
@@ -35,7 +35,7 @@ pub fn three_names()
     ensures nen { assertion_text examples.three_names (Nen 2 0 5) ≡ codes "NEN 3 1 {1,3}" }
 {}
 
-/// A tie of the first two candidates in round 1, a budget that is spent at the third, and one of two sets.
+/// A tie of the first two candidates in round 1, a budget that runs out at the third, and a budget of two sets that runs out.
 pub fn ends()
     ensures tie { tie_text examples.three_names 1 3 4 ≡
         codes "tie\nround 1\ntied 1,2\ntally 4\n" }
@@ -46,7 +46,7 @@ pub fn ends()
     ensures sets { spent_sets 2 ≡ codes "spent\nsets 2\n" }
 {}
 
-/// The greatest risk, and small ones.
+/// The largest risk, and small ones.
 pub fn risks()
     ensures one { risk_text ONE ≡ codes "1.000000000000000000" }
     ensures below { risk_text 999999999999999999 ≡ codes "0.999999999999999999" }
@@ -54,7 +54,7 @@ pub fn risks()
     ensures none { risk_text 0 ≡ codes "0.000000000000000000" }
 {}
 
-/// Two cards are worse by one vote than recorded, three are clean.
+/// Two cards are worse than recorded by one vote, and three are clean.
 pub fn counts()
     ensures { counts_text examples.two_of_five ≡ codes "0 2 3 0 0" }
 {}

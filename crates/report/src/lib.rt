@@ -1,5 +1,5 @@
-//! The texts that commands share: the tabulation of a contest round by round, its candidates, orders and assertions by their ids, the
-//! ends that have no certificate, and what is printed of an audit.
+//! The texts that commands share: the tabulation of a contest round by round; its candidates, orders and assertions by their ids; the
+//! endings without a certificate; and what is printed about an audit.
 #![tactic(auto)]
 
 mod ends;

@@ -1,11 +1,11 @@
-// What is printed of an audit: for a claim its risk, its counts and whether it is confirmed, and whether the audit is signed off.
+// What is printed about an audit: each claim's risk, its counts, and whether it is confirmed; and whether the audit is signed off.
 ghost use Rattle.std.specs.Prelude.{◌≡◌, ◌++◌, IfOk, string_bytes};
 ghost use Rattle.report.specs.Risks.{counts_text, risk_text, signed_off_line, state_end, state_text, yes_or_no};
 
 use km_risk::{Counts, ONE};
 use std::alloc::{AllocError, Global};
 
-/// Adds a risk, which is given in units of 10^-18, as a number with 18 digits after its point.
+/// Adds a risk, given in units of 10^-18, as a number with 18 digits after the point.
 pub fn add_risk(text: &mut String, units: u64) -> Result<(), AllocError>
     ensures { IfOk result (λ _. string_bytes text.new ≡ string_bytes text.old ++ risk_text units) }
 {
@@ -14,7 +14,7 @@ pub fn add_risk(text: &mut String, units: u64) -> Result<(), AllocError>
     write!(text, "{ones}.{rest:018}")
 }
 
-/// Adds how many draws have each discrepancy, from 0 to 4, with a blank between each two.
+/// Adds the number of draws with each discrepancy, from 0 to 4, separated by blanks.
 pub fn add_counts(text: &mut String, counts: &Counts) -> Result<(), AllocError>
     ensures { IfOk result (λ _. string_bytes text.new ≡
         string_bytes text.old ++ counts_text counts.now) }
@@ -23,7 +23,7 @@ pub fn add_counts(text: &mut String, counts: &Counts) -> Result<(), AllocError>
     write!(text, "{n0} {n1} {n2} {n3} {n4}")
 }
 
-/// How many draws have each discrepancy, as a text of its own.
+/// Returns the number of draws with each discrepancy as a separate text.
 pub fn counts_text(alloc: Global, counts: &Counts) -> Result<String, AllocError>
     ensures { IfOk result (λ text. string_bytes text ≡ counts_text counts.now) }
 {
@@ -32,7 +32,7 @@ pub fn counts_text(alloc: Global, counts: &Counts) -> Result<String, AllocError>
     Ok(text)
 }
 
-/// Whether a claim is confirmed, in a word.
+/// Returns the word that says whether a claim is confirmed.
 pub fn state_text(confirmed: bool) -> &'static str
     ensures { result.now ≡ state_text confirmed }
 {
@@ -51,7 +51,7 @@ pub fn add_state(text: &mut String, confirmed: bool) -> Result<(), AllocError>
     writeln!(text, " {state}")
 }
 
-/// `yes` or `no`.
+/// Returns `yes` or `no`.
 pub fn yes_or_no(yes: bool) -> &'static str
     ensures { result.now ≡ yes_or_no yes }
 {

@@ -21,7 +21,7 @@ fn is_in(list: &[Candidate], c: Candidate) -> bool
     list.contains(&c)
 }
 
-// These candidates by their numbers, which are below `n`.
+// These candidates in order of their numbers, which are below `n`.
 fn in_number_order(alloc: Global, n: usize, list: &[Candidate]) -> Result<Vec<Candidate>, Memory>
     requires { n ≤ ROOM }
     ensures { IfOk result (λ sorted. sorted.items ≡ in_number_order n list.now) }
@@ -82,7 +82,7 @@ fn tied_text(alloc: Global, tied: &str) -> Result<String, AllocError>
     format!(in alloc; "tied {tied}\n")
 }
 
-// The line of those who share the least tally, if they are several.
+// The line with the candidates who share the smallest tally, if there are several.
 fn tied_line(alloc: Global, names: &[Name], tied: CandSet) -> Result<String, Memory>
     requires { length names.now ≤ ROOM }
     ensures { IfOk result (λ text. string_bytes text ≡ tied_line names.now tied) }
@@ -95,7 +95,7 @@ fn tied_line(alloc: Global, names: &[Name], tied: CandSet) -> Result<String, Mem
     Ok(line)
 }
 
-// The lines of round `i`, in which these candidates remain and the first of them is eliminated.
+// The lines of round `i`. These candidates remain in it, and the first of them is eliminated.
 fn round_text(
     alloc: Global,
     names: &[Name],
@@ -167,9 +167,8 @@ fn whole_text(
     format!(in alloc; "contest {contest}\nrecords {records}\n{rounds}winner {winner}\n")
 }
 
-/// The lines of a tabulation: the contest, how many records there are, each round with the tallies of the candidates
-/// who remain, the records that rank none of them and the candidate who is eliminated, and the winner. Every line ends
-/// with a line feed.
+/// Returns the lines of a tabulation: the contest, the number of records, the rounds, and the winner. A round has the tallies of the
+/// candidates who remain, the records that rank none of them, and the candidate who is eliminated. Every line ends with a line feed.
 pub fn tabulation(alloc: Global, votes: &Votes, t: &Tabulated) -> Result<String, Memory>
     requires { IsTabulation (length (votes.now).candidates) (votes.now).rankings t.now }
     ensures { IfOk result (λ text.

@@ -1,4 +1,4 @@
-// Candidates, orders and assertions, printed by the ids of a contest's candidates.
+// Candidates, orders and assertions, printed with the ids of a contest's candidates.
 ghost use Rattle.std.specs.Prelude.{◌≡◌, ◌<◌, ◌≤◌, ◌++◌, ◌∷◌, [], if◌then◌else◌, length, filter, codes, All, IfOk, IsTrue, string_bytes};
 ghost use Rattle.irv_base.specs.Candidates.{candidates, has};
 ghost use Rattle.irv_base.specs.Names.{comma};
@@ -22,7 +22,7 @@ fn add_id(text: &mut String, is_first: bool, id: &str) -> Result<(), AllocError>
     write!(text, ",{id}")
 }
 
-// The ids of these candidates, with a comma between each two.
+// The ids of these candidates, separated by commas.
 fn joined(alloc: Global, names: &[Name], candidates: &[Candidate]) -> Result<String, Memory>
     requires { All (λ c. c < length names.now) candidates.now }
     ensures { IfOk result (λ text. string_bytes text ≡ joined (ids_of names.now candidates.now)) }
@@ -46,7 +46,7 @@ pub(crate) fn choose(list: &mut Vec<Candidate>, c: Candidate, is_chosen: bool) -
     Ok(())
 }
 
-// The members of a set that are below `n`, in rising order.
+// The members of a set that are below `n`, in increasing order.
 fn members(alloc: Global, n: usize, set: CandSet) -> Result<Vec<Candidate>, Memory>
     requires { n ≤ ROOM }
     ensures { IfOk result (λ members. members.items ≡ filter (has set) (candidates n)) }
@@ -59,7 +59,7 @@ fn members(alloc: Global, n: usize, set: CandSet) -> Result<Vec<Candidate>, Memo
     Ok(members)
 }
 
-/// The ids of an order's candidates, first eliminated first, with a comma between each two.
+/// Returns the ids of an order's candidates, separated by commas, with the first eliminated first.
 pub fn order_text(alloc: Global, names: &[Name], o: &Order) -> Result<String, Memory>
     requires { length names.now ≡ length o.now }
     ensures { IfOk result (λ text. string_bytes text ≡ order_text names.now o.now) }
@@ -67,7 +67,7 @@ pub fn order_text(alloc: Global, names: &[Name], o: &Order) -> Result<String, Me
     joined(alloc, names, o.candidates())
 }
 
-/// The ids of a set's members, in the contest's order, with a comma between each two.
+/// Returns the ids of a set's members, separated by commas, in the contest's order.
 pub fn set_text(alloc: Global, names: &[Name], set: CandSet) -> Result<String, Memory>
     requires { length names.now ≤ ROOM }
     ensures { IfOk result (λ text. string_bytes text ≡ set_text names.now set) }
@@ -90,7 +90,7 @@ fn nen_text(alloc: Global, w: &str, l: &str, rest: &str) -> Result<String, Alloc
     format!(in alloc; "NEN {w} {l} {{{rest}}}")
 }
 
-/// An assertion, as `NEB <w> <l>` or `NEN <w> <l> {<ids joined by commas>}`.
+/// Returns an assertion as `NEB <w> <l>` or `NEN <w> <l> {<ids joined by commas>}`.
 pub fn assertion_text(alloc: Global, names: &[Name], a: &Assertion) -> Result<String, Memory>
     requires few { length names.now ≤ ROOM }
     requires proper { IsTrue (is_proper (length names.now) a.now) }

@@ -1,4 +1,4 @@
--- The last comma of a draw's text parts the seed from the number.
+-- The last comma of a draw's text separates the seed from the number.
 use Rattle.std.proofs.Common.{◌≡◌, ℕ, List, [], ◌∷◌, ◌++◌, decimal, refl, subst, arith}
 use Rattle.std.specs.Str.Parse.{AllDigits}
 use Rattle.std.proofs.lemmas.Fmt.{decimal_injective, decimal_is_IsNumeral}

@@ -20,7 +20,7 @@ remainder-next number byte cards =
     ∙ ap (λ n. (n + byte) % cards) (mul-mod_first number 256 cards)
     ∙ mod-add-mod (number * 256) cards byte
 
--- as the code comes to know it
+-- as the code computes it
 pub remainder_more : (bytes : List ℕ) (i cards remainder byte : ℕ) → remainder ≡ number_of (take i bytes) % cards → byte ≡ get_or bytes i 0 → i < length bytes →
     (remainder * 256 + byte) % cards ≡ number_of (take (i + 1) bytes) % cards
 remainder_more bytes i cards remainder byte so_far e l =

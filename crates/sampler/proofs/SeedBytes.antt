@@ -33,7 +33,7 @@ bad-none text h =
     whole : length text ≤ first
     whole = ltb-false first (length text) (none-false (nat_lt first (length text)) h)
 
--- ---- as the code comes to know it
+-- ---- as the code finds it
 pub refused_byte : (text : List ℕ) (place : ℕ) → has_seed_length text ≡ true → first_bad_byte text ≡ Some place → is_seed text ≡ false
 refused_byte text place long bad = ap (λ b. has_seed_length text && b) (bad-some text place bad) ∙ ap (λ b. b && false) long
 

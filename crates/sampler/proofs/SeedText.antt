@@ -1,4 +1,4 @@
--- Seeds are ASCII, and so they are text.
+-- Seeds are ASCII, so they are text.
 use Rattle.std.proofs.Common.{◌≡◌, ℕ, ◌<◌, ◌≤◌, true, List, [], ◌∷◌, nat_le, arith, leb-true}
 use Rattle.std.specs.List.{list_all}
 use Rattle.std.specs.Str.{IsUtf8, IsAscii}

@@ -1,4 +1,4 @@
--- A seed that is kept in an array with room for the longest, padded with 0.
+-- A seed stored in an array with room for the longest seed, padded with 0.
 use Rattle.std.specs.Prelude.{◌≡◌, ◌-◌, ◌≤◌, ◌++◌, ℕ, List, take, length, replicate, IsTrue}
 use Rattle.sampler.specs.Seeds.{is_seed}
 use Rattle.sampler.specs.declared.limits.TheConstants.{MOST_SEED_BYTES}

@@ -18,13 +18,13 @@ is_seed_byte b = nat_le space b && nat_le b tilde
 abbrev pub has_seed_length : List ℕ → Bool
 has_seed_length bytes = nat_le 1 (length bytes) && nat_le (length bytes) MOST_SEED_BYTES
 
--- 1 to MOST_SEED_BYTES such bytes
+-- 1 to MOST_SEED_BYTES of these bytes
 abbrev pub is_seed : List ℕ → Bool
 is_seed bytes = has_seed_length bytes && list_all is_seed_byte bytes
 
--- ---- why a text is no seed
+-- ---- why a text isn't a seed
 
--- the place of the first byte that no seed may have
+-- the index of the first byte that a seed can't have
 abbrev pub first_bad_byte : List ℕ → Option ℕ
 first_bad_byte bytes = position (λ b. not (is_seed_byte b)) bytes
 

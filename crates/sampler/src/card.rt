@@ -6,7 +6,7 @@ use crate::Seed;
 use itoa::Buffer;
 use sha2::{Digest, Sha256};
 
-// Taken byte by byte, so that 64 bits are enough for every number of cards.
+// Goes byte by byte, so that 64 bits are enough for any number of cards.
 fn remainder(bytes: &[u8], cards: u32) -> u32
     requires { 1 ≤ cards }
     ensures { result ≡ number_of bytes.now % cards }
@@ -19,7 +19,8 @@ fn remainder(bytes: &[u8], cards: u32) -> u32
     remainder as u32
 }
 
-/// The card that a digest names, from 1: its 32 bytes as one number, most significant first, modulo the number of cards, plus 1.
+/// Returns the card that a digest names, counted from 1. It is the digest's 32 bytes as one number, most significant first, modulo the
+/// number of cards, plus 1.
 pub fn reduce(digest: &[u8; 32], cards: u32) -> u32
     requires { 1 ≤ cards }
     ensures card { result ≡ card_of digest.now cards }
@@ -29,7 +30,7 @@ pub fn reduce(digest: &[u8; 32], cards: u32) -> u32
     remainder(digest, cards) + 1
 }
 
-/// The card of draw number `k`, counted from 1: what `reduce` gives for the SHA-256 of the seed's bytes, a comma and
+/// Returns the card of draw number `k`, counted from 1. It is what `reduce` gives for the SHA-256 of the seed's bytes, a comma, and
 /// `k` in decimal without leading zeros. Draws are with replacement.
 pub fn draw(seed: &Seed, k: u64, cards: u32) -> u32
     requires { 1 ≤ cards }

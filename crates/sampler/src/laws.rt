@@ -1,7 +1,7 @@
-//! The laws of seeds and draws: each holds of every value that it names, and has no code.
+//! The laws of seeds and draws. Each holds of every value that it names, and has no code.
 ghost use Rattle.sampler.specs.Laws.{LimitsLaw, TextTellsDraw};
 
-/// The most bytes of a seed.
+/// The maximum number of bytes in a seed.
 pub fn limits()
     ensures { LimitsLaw }
 {}

@@ -1,5 +1,5 @@
-//! The cards that an audit draws. Each follows by SHA-256 (FIPS 180-4) from the seed, the number of the draw and the
-//! number of cards alone, so that anyone can draw it again. The form is this suite's own, after Rivest's sampler.
+//! The cards that an audit draws. SHA-256 (FIPS 180-4) gives each card from only the seed, the number of the draw and the number of cards,
+//! so that anyone can draw it again. The form is this suite's own, after Rivest's sampler.
 #![tactic(auto)]
 
 mod card;

@@ -7,12 +7,12 @@ use std::error::Error;
 use std::fmt;
 use std::marker::Model;
 
-/// Why a text is no seed.
+/// Why a text isn't a seed.
 #[derive(Clone, Copy, Debug, PartialEq, Eq)]
 pub enum BadSeed {
     /// It has this many bytes.
     Length(u64),
-    /// The byte at this place, from 0, is the first that no seed may have.
+    /// The byte at this index, counted from 0, is the first that a seed can't have.
     Byte(u64),
 }
 
@@ -33,9 +33,9 @@ impl fmt::Display for BadSeed {
 
 impl Error for BadSeed {}
 
-/// The seed of an audit: 1 to `MOST_SEED_BYTES` printable ASCII characters, spaces among them.
+/// The seed of an audit: 1 to `MOST_SEED_BYTES` printable ASCII characters, including spaces.
 ///
-/// To a contract a seed is its bytes.
+/// In a contract, a seed is its bytes.
 #[derive(Clone, Copy)]
 pub struct Seed {
     len: u8,
@@ -85,7 +85,8 @@ fn first_bad_byte(bytes: &[u8]) -> Option<usize>
 }
 
 impl Seed {
-    /// The seed with the bytes of this text, or why it is none: its length first, then its first bad byte.
+    /// Reads a seed with the bytes of this text. If the text isn't a seed, the error is its length if that is wrong, and otherwise its first bad
+    /// byte.
     pub fn read(text: &str) -> Result<Seed, BadSeed>
         ensures valid { is_ok result ≡ is_seed text.now }
         ensures seed { IfOk result (λ seed. seed ≡ text.now) }
@@ -106,7 +107,7 @@ impl Seed {
         })
     }
 
-    /// Its bytes: ASCII, as they are hashed.
+    /// Returns the seed's bytes, in ASCII, as they are hashed.
     pub fn bytes(&self) -> &[u8]
         ensures same { result.now ≡ self.now }
         ensures valid { IsTrue (is_seed self.now) }
@@ -114,7 +115,7 @@ impl Seed {
         &self.text[..usize::from(self.len)]
     }
 
-    /// The seed as a text.
+    /// Returns the seed as a text.
     pub fn text(&self) -> &str
         ensures same { result.now ≡ self.now }
         ensures valid { IsTrue (is_seed self.now) }

@@ -1,4 +1,4 @@
--- A search has an end, and so has a tabulation: a tie exactly where the contest isn't decided.
+-- A search has an end, and so does a tabulation: a tie exactly if the contest isn't decided.
 use Rattle.std.proofs.Common.{◌≡◌, ◌↔◌, ◌⊎◌, inl, inr, ℕ, zero, suc, ◌<◌, ◌≤◌, List, Option, refl, sym, subst, arith}
 use Rattle.std.proofs.lemmas.Bool.{cases_eq, cases_lt}
 use Rattle.budget.specs.declared.budget.Budget.{Budget}
@@ -52,7 +52,7 @@ pub undecided_has_tie : (ballots : BallotFile) → FEWEST_CANDIDATES ≤ candida
 undecided_has_tie ballots fewest undecided =
     let (winner, won) = winner_exists ballots (omega (arith, fewest)) in tie_exists ballots winner won undecided
 
--- the winner is elected, or there is a tie to tell
+-- the winner is elected, or there is a tie to report
 elected-or_tie : (ballots : BallotFile) (winner : ℕ) → 1 < candidate_count ballots → IsWon ballots winner →
     IsElected ballots winner ⊎ ((text : List ℕ) × HasTie ballots text)
 elected-or_tie ballots winner two won =
@@ -63,7 +63,7 @@ elected-or_tie ballots winner two won =
       | inr none ↦ inr (tie_exists ballots winner won (λ decided. let some = exactly.0 decided in omega (arith, none, some)))
     ]
 
--- ---- the least candidate for whom the nodes don't suffice
+-- ---- the smallest candidate for whom the nodes don't suffice
 module _ (nodes : ℕ) (ballots : BallotFile) (winner : ℕ) where
   record IsLeastOver (last : ℕ) : Type 0 where
     named : IsOther ballots winner last
@@ -94,7 +94,7 @@ module _ (nodes : ℕ) (ballots : BallotFile) (winner : ℕ) where
     ]
   ]
 
-  -- a certificate that is spent there
+  -- a certificate that runs out of budget there
   spent-there : (last : ℕ) → 1 < candidate_count ballots → IsWon ballots winner → IsElected ballots winner → IsLeastOver last →
       (text : List ℕ) × HasSpent (Nodes nodes) ballots text
   spent-there last two won elected over =
@@ -175,7 +175,7 @@ module _ (floor : ℕ) (plan : Option PlanTerms) (ballots : BallotFile) where
     | inr tie ↦ let end = tied (Nodes nodes) tie tt in (end.0, end.1)
   ]
 
-  -- more sets are needed
+  -- the search needs more sets
   by-sets-above : (sets winner : ℕ) → 1 < candidate_count ballots → (won : IsWon ballots winner) → sets < sets_of ballots winner → Ends (Sets sets)
   by-sets-above sets winner two won above = elim (cases_lt 0 (first_bound (candidate_count ballots) ballots.rankings won.order)) [
     | inl some ↦

@@ -1,4 +1,4 @@
--- A search for the fewest NENs comes to one status, and what it comes to of each kind.
+-- A search for the fewest NENs ends with one status, and what it ends with for each kind.
 use Rattle.std.proofs.Common.{◌≡◌, inl, inr, ℕ, ◌<◌, Bool, true, false, List, Option, MatchBool, codes, refl, sym, ap, subst, arith, ◌∙◌}
 use Rattle.ballots.specs.Ballots.{BallotFile}
 use Rattle.ballots.specs.Grammar.{ballots_of}
@@ -26,7 +26,7 @@ use Rattle.search_commands.specs.SearchFewest.{Finds, HasFewest, HasFullCount, H
 use Rattle.search_commands.proofs.Going.{go_on-agrees_of}
 use Rattle.search_commands.proofs.Ties.{never_both}
 
--- ---- a budget that is enough isn't spent
+-- ---- a budget that is enough doesn't run out
 
 module _ (ballots : BallotFile) (sets : ℕ) (text : List ℕ) (spent : HasSpent sets ballots text) where
   pub not_found : (gap : ℕ) (file : Content) → IsFewestFoundIn sets gap ballots file → ⊥
@@ -107,13 +107,13 @@ found_by task ballots kind text = by (has_cards task.plan ballots) where
   by true found = (refl, found)
   by false few = absurd (cc few)
 
--- and what is found there, it comes to
+-- the search ends with what is found there
 pub searched_with : (task : SearchFewestTask) (ballots : BallotFile) (v : Verdict) → has_cards task.plan ballots ≡ true →
     Finds task.sets task.gap task.floor task.plan ballots v → Searches task ballots v
 searched_with task ballots v has found =
     subst (λ b. MatchBool b (Finds task.sets task.gap task.floor task.plan ballots v) (v ≡ more_ballots task.ballots)) (sym has) found
 
--- and what it comes to there, is found
+-- what the search ends with there is found
 pub searched_finds : (task : SearchFewestTask) (ballots : BallotFile) (v : Verdict) → has_cards task.plan ballots ≡ true → Searches task ballots v →
     Finds task.sets task.gap task.floor task.plan ballots v
 searched_finds task ballots v has found =
@@ -124,7 +124,7 @@ pub searched_or_memory : (task : SearchFewestTask) (ballots : BallotFile) (due :
 searched_or_memory task ballots due has (inl (v, found, is)) = inl (v, searched_with task ballots v has found, is)
 searched_or_memory task ballots due has (inr memory) = inr memory
 
--- without a card for each, the ballots are refused
+-- without a card for each ballot, the ballots are refused
 pub refused_or_memory : (task : SearchFewestTask) (ballots : BallotFile) (name : List ℕ) (due : Outcome) → has_cards task.plan ballots ≡ false → name ≡ task.ballots →
     IsOrMemory (file_refusal Input name (broken_at (codes "B11") 0)) due → IsOneOrMemory (Searches task ballots) due
 refused_or_memory task ballots name due few named (inl is) =

@@ -1,4 +1,4 @@
--- What a search for the fewest NENs says of votes, it says of the ballots that they are of.
+-- What a search for the fewest NENs says of votes, it also says of the ballots that have these votes.
 use Rattle.std.proofs.Common.{◌≡◌, inl, inr, subst, Bool, true, false, List, ℕ, Option}
 use Rattle.std.specs.Bool.{MatchBool}
 use Rattle.budget.specs.declared.budget.Budget.TheVariants.{Sets}

@@ -1,4 +1,4 @@
--- A command on a contest goes on with its ballots, or they are refused.
+-- A command on a contest continues with its ballots, or they are refused.
 use Rattle.std.proofs.Common.{◌≡◌, inl, ℕ, List, Option, Result, Ok, Err, refl, sym, ap, subst, ◌∙◌}
 use Rattle.desk.specs.Count.{Rose, one_more}
 use Rattle.desk.specs.Desk.{File}
@@ -18,7 +18,7 @@ pub go_on-agrees : {A : Type 0} (judged : Result A Verdict) (next : A → Script
 go_on-agrees (Ok value) next each = each value
 go_on-agrees (Err verdict) next each = λ v w p q. inl (ap outcome (p ∙ sym q))
 
--- what is read goes on to one status
+-- what is read leads to one status
 pub go_on-agrees_of : {A Why : Type 0} (words : Why → Verdict) (read : Result A Why) (next : A → Script) →
     ((value : A) → read ≡ Ok value → Agree SameStatus (next value)) → Agree SameStatus (go_on (told words read) next)
 go_on-agrees_of words (Ok value) next each = each value refl

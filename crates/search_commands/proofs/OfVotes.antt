@@ -1,4 +1,4 @@
--- What a command says of votes, it says of the ballots that they are of.
+-- What a command says of votes, it also says of the ballots that have these votes.
 use Rattle.std.proofs.Common.{◌≡◌, inl, inr, refl, subst, Bool, true, false, List, ℕ, Option, Some, None}
 use Rattle.std.specs.Bool.{MatchBool}
 use Rattle.budget.specs.declared.budget.Budget.{Budget}

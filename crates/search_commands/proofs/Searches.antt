@@ -1,4 +1,4 @@
--- A search comes to one end, but for its budget.
+-- A search has one end, unless its budget runs out.
 use Rattle.std.proofs.Common.{◌≡◌, ◌↔◌, inl, inr, ℕ, ◌<◌, ◌≤◌, Bool, true, false, List, Option, MatchBool, codes, refl, sym, ap, subst, arith, ◌∙◌}
 use Rattle.budget.specs.declared.budget.Budget.{Budget}
 use Rattle.budget.specs.declared.budget.Budget.TheVariants.{Nodes, Sets}
@@ -155,9 +155,9 @@ module _ (sets least : ℕ) (plan : Option PlanTerms) (ballots : BallotFile) (wi
     by (inr (inr (inr (text, has, e)))) some above =
         let same = sets-same has.is.winner has.is.won in let within = has.within in absurd (omega (arith, above, within, same))
 
--- ---- what a search comes to, where each ballot has a card
+-- ---- what a search ends with, if each ballot has a card
 
--- an answer comes only there, and is then of what is found
+-- there is an answer only in that case, and then it is of what is found
 pub found_by : (task : SearchTask) (ballots : BallotFile) (kind : AnswerKind) (text : List ℕ) → Searches task ballots (Answered kind text) →
     (has_cards task.plan ballots ≡ true) × Finds task.budget task.floor task.plan ballots (Answered kind text)
 found_by task ballots kind text = by (has_cards task.plan ballots) where
@@ -166,7 +166,7 @@ found_by task ballots kind text = by (has_cards task.plan ballots) where
   by true found = (refl, found)
   by false refused = absurd (cc refused)
 
--- and what is found there, it comes to
+-- the search ends with what is found there
 pub searched_with : (task : SearchTask) (ballots : BallotFile) (v : Verdict) → has_cards task.plan ballots ≡ true →
     Finds task.budget task.floor task.plan ballots v → Searches task ballots v
 searched_with task ballots v has found =
@@ -177,7 +177,7 @@ pub searched_or_memory : (task : SearchTask) (ballots : BallotFile) (due : Outco
 searched_or_memory task ballots due has (inl (v, found, is)) = inl (v, searched_with task ballots v has found, is)
 searched_or_memory task ballots due has (inr memory) = inr memory
 
--- without a card for each, the ballots are refused
+-- without a card for each ballot, the ballots are refused
 pub refused_or_memory : (task : SearchTask) (ballots : BallotFile) (name : List ℕ) (due : Outcome) → has_cards task.plan ballots ≡ false → name ≡ task.ballots →
     IsOrMemory (file_refusal Input name (broken_at (codes "B11") 0)) due → IsOneOrMemory (Searches task ballots) due
 refused_or_memory task ballots name due few named (inl is) =

@@ -1,4 +1,4 @@
--- A search whose budget is spent, as it is told: nodes as nodes, and sets as sets.
+-- A search whose budget runs out, as it is reported: nodes as nodes, and sets as sets.
 use Rattle.std.proofs.Common.{◌≡◌, ℕ, ◌<◌, true, List, ap, ◌∙◌}
 use Rattle.budget.specs.declared.budget.Budget.{Budget}
 use Rattle.budget.specs.declared.budget.Budget.TheVariants.{Nodes, Sets}

@@ -1,4 +1,4 @@
--- A race that is to tell whether a tie matters, and is spent.
+-- A race that is to find out whether a tie matters, and runs out of budget.
 use Rattle.std.proofs.Common.{ℕ, ◌<◌, List, sym}
 use Rattle.irv_base.specs.Tabulation.{HasNoTie}
 use Rattle.set_tallies.specs.Bags.{Kept, IsOf}

@@ -1,4 +1,4 @@
--- A tabulation comes to one end, but for its budget.
+-- A tabulation has one end, unless its budget runs out.
 use Rattle.std.proofs.Common.{◌≡◌, inl, inr, ℕ, List, refl, sym, ap, ◌∙◌}
 use Rattle.ballots.specs.Ballots.{BallotFile}
 use Rattle.ballots.specs.Grammar.{ballots_of}

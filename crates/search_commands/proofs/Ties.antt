@@ -1,4 +1,4 @@
--- A contest has at most one first tie to tell, and none where it is decided.
+-- A contest has at most one first tie to report, and none if it is decided.
 use Rattle.std.proofs.Common.{◌≡◌, ℕ, List, sym, ap, ◌∙◌}
 use Rattle.irv_base.specs.Names.{Id}
 use Rattle.irv_base.proofs.Ties.{first_tie_is_one}
@@ -7,7 +7,7 @@ use Rattle.report.specs.Ends.{tie_text}
 use Rattle.contest_search.specs.Contest.{candidate_count, IsElected, IsTie}
 use Rattle.search_commands.specs.Ends.{HasTie}
 
--- the lines of a tie, told by the ids of the contest
+-- the lines of a tie, printed by the ids of the contest
 pub tie_told : (ballots : BallotFile) (names : List Id) (round tied votes : ℕ) → names ≡ ballots.candidates → IsTie ballots round tied votes →
     HasTie ballots (tie_text names round tied votes)
 tie_told ballots names round tied votes same is =
@@ -20,6 +20,6 @@ tie-one ballots text other a b =
     a.shown ∙ ap (λ x. tie_text ballots.candidates x a.tied a.votes) r ∙ ap (λ x. tie_text ballots.candidates b.round x a.votes) t
     ∙ ap (λ x. tie_text ballots.candidates b.round b.tied x) v ∙ sym b.shown
 
--- where a tie leaves open who has won, nobody is elected whichever way it is broken
+-- if a tie leaves open who has won, nobody is elected whichever way it is broken
 pub never_both : (ballots : BallotFile) (winner : ℕ) (text : List ℕ) → IsElected ballots winner → HasTie ballots text → ⊥
 never_both ballots winner text elected t = t.is.undecided (winner, elected)

@@ -1,4 +1,4 @@
--- A trial is a search of its contest at floor 1, and isn't spent with enough nodes or sets.
+-- A trial is a search of its contest at floor 1, and doesn't run out of budget with enough nodes or sets.
 use Rattle.std.proofs.Common.{◌≡◌, ◌⊎◌, inl, inr, ℕ, ◌<◌, ◌≤◌, ◌-◌, ◌*◌, ◌^◌, List, None, refl, ap, arith}
 use Rattle.std.specs.Prelude.{◌↔◌}
 use Rattle.irv_base.specs.declared.limits.TheConstants.{FEWEST_CANDIDATES}

@@ -1,4 +1,4 @@
--- A trial comes to one end, but for its budget.
+-- A trial has one end, unless its budget runs out.
 use Rattle.std.proofs.Common.{◌≡◌, inl, inr, ℕ, List, refl, sym, ap, ◌∙◌}
 use Rattle.cli_base.specs.Outcome.{Verdict, outcome}
 use Rattle.cli_base.specs.Script.{Agree, AreOfKind, IsOfKind, SameButBudget}

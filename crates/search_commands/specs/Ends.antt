@@ -1,4 +1,4 @@
--- How a command on a contest ends without a certificate: with the first tie, or with a budget that is spent.
+-- How a command on a contest ends without a certificate: with the first tie, or out of budget.
 use Rattle.std.specs.Prelude.{◌≡◌, ℕ, List}
 use Rattle.budget.specs.declared.budget.Budget.{Budget}
 use Rattle.budget.specs.declared.budget.Budget.TheVariants.{Nodes, Sets}

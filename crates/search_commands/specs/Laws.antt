@@ -1,4 +1,4 @@
--- How a search and a tabulation end, and that a trial is a search.
+-- How a search and a tabulation end, and why a trial is a search.
 use Rattle.std.specs.Prelude.{◌⊎◌, ◌↔◌, ℕ, ◌≤◌, ◌<◌, List, Option, None}
 use Rattle.budget.specs.declared.budget.Budget.{Budget}
 use Rattle.budget.specs.declared.budget.Budget.TheVariants.{Nodes, Sets}
@@ -26,14 +26,14 @@ UndecidedHasTie =
     (ballots : BallotFile) → FEWEST_CANDIDATES ≤ candidate_count ballots → IsUndecided ballots →
     (text : List ℕ) × HasTie ballots text
 
--- Whatever its budget and its floor, a search has an end.
+-- A search has an end, whatever its budget and its floor.
 abbrev pub EndExists : Type 0
 EndExists =
     (budget : Budget) (least : ℕ) (plan : Option PlanTerms) (ballots : BallotFile) →
     FEWEST_CANDIDATES ≤ candidate_count ballots →
     (verdict : Verdict) × Finds budget least plan ballots verdict
 
--- If the budget is enough for the certificate, it has one at which it isn't spent.
+-- If the budget is enough for the certificate, a search has an end at which it isn't out of budget.
 abbrev pub UnspentEndExists : Type 0
 UnspentEndExists =
     (budget : Budget) (least : ℕ) (plan : Option PlanTerms) (ballots : BallotFile) (winner : ℕ) →
@@ -42,7 +42,7 @@ UnspentEndExists =
     (verdict : Verdict) × Finds budget least plan ballots verdict
     × (One (HasSpent budget ballots) Spent verdict → ⊥)
 
--- A search that isn't spent ends with a tie exactly if its contest isn't decided.
+-- A search that isn't out of budget ends with a tie exactly if its contest isn't decided.
 abbrev pub TieIffUndecided : Type 0
 TieIffUndecided =
     (budget : Budget) (least : ℕ) (plan : Option PlanTerms) (ballots : BallotFile) (verdict : Verdict) →
@@ -50,23 +50,23 @@ TieIffUndecided =
     (One (HasSpent budget ballots) Spent verdict → ⊥) →
     (One (HasTie ballots) Tie verdict ↔ IsUndecided ballots)
 
--- A tabulation has an end at which it isn't spent, whatever its nodes.
+-- A tabulation has an end at which it isn't out of budget, whatever its number of nodes.
 abbrev pub TabulationExists : Type 0
 TabulationExists =
     (nodes : ℕ) (ballots : BallotFile) → FEWEST_CANDIDATES ≤ candidate_count ballots →
     (verdict : Verdict) × Tabulates nodes ballots verdict
     × (One (HasStopped nodes ballots) Spent verdict → ⊥)
 
--- It then names no winner exactly if its contest isn't decided.
+-- A tabulation that isn't out of budget names no winner exactly if its contest isn't decided.
 abbrev pub NoWinnerIffUndecided : Type 0
 NoWinnerIffUndecided =
     (nodes : ℕ) (ballots : BallotFile) (verdict : Verdict) → Tabulates nodes ballots verdict →
     (One (HasStopped nodes ballots) Spent verdict → ⊥) →
     (One (HasTie ballots) Tie verdict ↔ IsUndecided ballots)
 
--- ---- what it takes
+-- ---- the budget that a search needs
 
--- If the certificate of a decided contest needs more nodes for a candidate, a search is spent.
+-- If the certificate of a decided contest needs more nodes for a candidate, a search runs out of budget.
 abbrev pub SpentWhereAbove : Type 0
 SpentWhereAbove =
     (nodes least : ℕ) (plan : Option PlanTerms) (ballots : BallotFile) (winner c : ℕ)
@@ -75,7 +75,7 @@ SpentWhereAbove =
     nodes < certificate_nodes ballots winner c → Finds (Nodes nodes) least plan ballots verdict →
     One (HasSpent (Nodes nodes) ballots) Spent verdict
 
--- By sets it is spent exactly if it needs more of them, and the order that it starts with isn't of hardness 0.
+-- A search by sets runs out of budget exactly if it needs more sets, and the order that it starts with isn't of hardness 0.
 abbrev pub SpentBySetsExactly : Type 0
 SpentBySetsExactly =
     (sets least : ℕ) (plan : Option PlanTerms) (ballots : BallotFile) (winner : ℕ)
@@ -96,7 +96,7 @@ TrialIsASearch =
     (task : TrialTask) (kind : AnswerKind) → FEWEST_CANDIDATES ≤ task.candidates →
     IsAmongKinds (Tries task) kind ↔ IsAmongKinds (Finds task.budget 1 None (contest_of task)) kind
 
--- With twice the factorial of the number of the other candidates as nodes, or with all sets but three, it has its lines, or a tie.
+-- With twice the factorial of the number of the other candidates as nodes, or with all sets but three, a trial has its lines, or a tie.
 abbrev pub TrialIsComplete : Type 0
 TrialIsComplete =
     (task : TrialTask) (verdict : Verdict) → IsEnoughFor task.candidates task.budget →

@@ -45,7 +45,7 @@ plan_by file terms = plan_of terms.cards terms.gamma terms.limit file
 abbrev pub printed : Option PlanTerms → Content → Content
 printed plan file = record file { plan = option_map (plan_by file) plan }
 
--- there are at least as many cards as ballots, if a number of cards is given
+-- if a number of cards is given, there are at least as many cards as ballots
 abbrev pub has_cards : Option PlanTerms → BallotFile → Bool
 has_cards None ballots = true
 has_cards (Some terms) ballots = nat_le (length ballots.rankings) terms.cards
@@ -54,9 +54,9 @@ has_cards (Some terms) ballots = nat_le (length ballots.rankings) terms.cards
 abbrev pub more_ballots : List ℕ → Verdict
 more_ballots name = Refused name (broken_at (codes "B11") 0)
 
--- ---- how a search ends, with such a budget, where a margin below `least` calls for a full count
+-- ---- how a search with a budget ends, if a margin below `least` calls for a full count
 
--- with the certificate if its margin reaches that, as it is printed with such a plan
+-- with the certificate if its margin reaches `least`, as it is printed with this plan
 pub record HasCertificate (budget : Budget) (least : ℕ) (plan : Option PlanTerms) (ballots : BallotFile)
     (text : List ℕ) : Type 0 where
   pub file : Content
@@ -65,7 +65,7 @@ pub record HasCertificate (budget : Budget) (least : ℕ) (plan : Option PlanTer
   pub floor : least ≤ file.margin
   pub shown : text ≡ assertion_file_text (printed plan file)
 
--- and with only the certificate's order if it doesn't
+-- with only the certificate's order if its margin doesn't reach `least`
 pub record HasFullCount (budget : Budget) (least : ℕ) (ballots : BallotFile) (text : List ℕ) : Type 0 where
   pub file : Content
   pub is : IsCertificateOfDecided ballots file

@@ -21,7 +21,7 @@ use Rattle.search_commands.specs.Search.{full_count_text, has_cards, more_ballot
 
 -- ---- how it ends, with this many sets and this gap, if a best margin below `least` calls for a full count
 
--- with assertions of the fewest NENs if the best margin reaches that, as they are printed with such a plan
+-- with assertions that have the fewest NENs if the best margin reaches `least`, as they are printed with this plan
 pub record HasFewest (sets gap least : ℕ) (plan : Option PlanTerms) (ballots : BallotFile)
     (text : List ℕ) : Type 0 where
   pub file : Content
@@ -29,14 +29,14 @@ pub record HasFewest (sets gap least : ℕ) (plan : Option PlanTerms) (ballots :
   pub floor : least ≤ file.margin
   pub shown : text ≡ assertion_file_text (printed plan (with_own_margin file))
 
--- and with only the order if it doesn't
+-- with only the order if the best margin doesn't reach `least`
 pub record HasFullCount (sets gap least : ℕ) (ballots : BallotFile) (text : List ℕ) : Type 0 where
   pub file : Content
   pub is : IsFewestFoundIn sets gap ballots file
   pub floor : file.margin < least
   pub shown : text ≡ full_count_text file least
 
--- more sets are needed than there are; the order that a search starts with is printed
+-- the search needs more sets than there are; the order that a search starts with is printed
 pub record HasSpent (sets : ℕ) (ballots : BallotFile) (text : List ℕ) : Type 0 where
   pub order : List ℕ
   pub margin : ℕ

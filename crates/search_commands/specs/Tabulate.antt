@@ -26,7 +26,7 @@ pub record HasRounds (ballots : BallotFile) (text : List ℕ) : Type 0 where
   pub decided : IsElected ballots winner
   pub shown : text ≡ tabulation_text ballots won.order winner
 
--- there is a tie, and the race that is to find whether it matters is spent at this candidate, with an order as a search prints it
+-- there is a tie, and the race to find out whether it matters runs out of budget at this candidate, with an order as a search prints it
 pub record IsStopped (nodes : ℕ) (ballots : BallotFile) (last : ℕ) (order : List ℕ)
     (margin : ℕ) : Type 0 where
   pub winner : ℕ

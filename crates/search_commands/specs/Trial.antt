@@ -18,7 +18,7 @@ use Rattle.search_commands.specs.Search.{certificate_order_text}
 
 -- ---- its contest
 
--- the ids of n candidates: their numbers, from 1 on
+-- the ids of n candidates, which are their numbers from 1
 abbrev pub trial_candidates : ℕ → List Id
 trial_candidates n = map (λ c. decimal (c + 1)) (candidates n)
 

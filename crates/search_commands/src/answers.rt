@@ -1,4 +1,4 @@
-// The answers of a contest without a certificate.
+// The answers for a contest without a certificate.
 ghost use Rattle.std.specs.Prelude.{◌≡◌, ◌<◌, ◌≤◌, length, IsTrue};
 ghost use Rattle.irv_base.specs.Orders.{is_order};
 ghost use Rattle.irv_base.specs.declared.limits.TheConstants.{ROOM};
@@ -12,7 +12,7 @@ use irv_base::{CandSet, Candidate, Name, Order};
 use report::{spent_sets_text, spent_text, tie_text};
 use std::alloc::Global;
 
-/// The answer for a contest that isn't decided: the round of its first tie, those who share the least tally, and that tally.
+/// The answer for a contest that isn't decided: the round of its first tie, the candidates who share the lowest tally, and that tally.
 pub(crate) fn first_tie(
     alloc: Global,
     names: &[Name],
@@ -31,7 +31,7 @@ pub(crate) fn first_tie(
     })
 }
 
-/// The answer if the budget of nodes is spent at this candidate: an order that elects another candidate than the winner, no harder than
+/// The answer if the budget of nodes runs out at this candidate: an order that elects a candidate other than the winner, no harder than
 /// the one that a search starts with, and its hardness.
 pub(crate) fn spent(
     alloc: Global,
@@ -52,7 +52,7 @@ pub(crate) fn spent(
     })
 }
 
-/// The answer if more sets are needed than the budget has, which is this many: the order that a search starts with, and its hardness.
+/// The answer if a search needs more than the budget of this many sets: the order that a search starts with, and its hardness.
 pub(crate) fn spent_sets(
     alloc: Global,
     names: &[Name],

@@ -7,37 +7,37 @@ pub fn undecided_has_tie()
     ensures { UndecidedHasTie }
 {}
 
-/// Whatever its budget and its floor, a search has an end.
+/// A search has an end, whatever its budget and its floor.
 pub fn end_exists()
     ensures { EndExists }
 {}
 
-/// If the budget is enough for the certificate, it has one at which it isn't spent.
+/// If the budget is enough for the certificate, a search has an end at which it isn't out of budget.
 pub fn unspent_end_exists()
     ensures { UnspentEndExists }
 {}
 
-/// A search that isn't spent ends with a tie exactly if its contest isn't decided.
+/// A search that isn't out of budget ends with a tie exactly if its contest isn't decided.
 pub fn tie_iff_undecided()
     ensures { TieIffUndecided }
 {}
 
-/// A tabulation has an end at which it isn't spent, whatever its nodes.
+/// A tabulation has an end at which it isn't out of budget, whatever its number of nodes.
 pub fn tabulation_exists()
     ensures { TabulationExists }
 {}
 
-/// It then names no winner exactly if its contest isn't decided.
+/// A tabulation that isn't out of budget names no winner exactly if its contest isn't decided.
 pub fn no_winner_iff_undecided()
     ensures { NoWinnerIffUndecided }
 {}
 
-/// A search of a decided contest whose certificate needs more nodes for a candidate is spent.
+/// A search of a decided contest whose certificate needs more nodes for a candidate runs out of budget.
 pub fn spent_where_above()
     ensures { SpentWhereAbove }
 {}
 
-/// By sets it is spent exactly if it needs more of them, and the order that it starts with isn't of hardness 0.
+/// A search by sets runs out of budget exactly if it needs more sets, and the order that it starts with isn't of hardness 0.
 pub fn spent_by_sets_exactly()
     ensures { SpentBySetsExactly }
 {}
@@ -47,7 +47,7 @@ pub fn trial_is_a_search()
     ensures { TrialIsASearch }
 {}
 
-/// A trial with enough nodes or sets isn't spent.
+/// A trial with enough nodes or sets doesn't run out of budget.
 pub fn trial_is_complete()
     ensures { TrialIsComplete }
 {}

@@ -1,5 +1,5 @@
-//! The commands that search a contest, one a module: the assertions that confirm its winner, its tabulation, and a trial, whose contest is
-//! no file's.
+//! The commands that search a contest, one per module: the assertions that confirm its winner, its tabulation, and a trial, whose contest
+//! isn't in a file.
 #![tactic(auto)]
 
 mod answers;

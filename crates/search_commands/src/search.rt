@@ -45,7 +45,7 @@ pub fn answer<R: AllocGlobal + Threads + Sync, D: Desk, G: Gate + Sync>(
     after_votes(rt, &votes, task, gate)
 }
 
-// The answer to the votes of the contest, unless there are more ballots than the cards that are asked for.
+// The answer for the votes of the contest, unless there are more ballots than the given number of cards.
 fn after_votes<R: AllocGlobal + Threads + Sync, G: Gate + Sync>(
     rt: &R,
     votes: &Votes,
@@ -71,7 +71,7 @@ pub(crate) fn has_cards(plan: Option<PlanTerms>, votes: &Votes) -> bool
     }
 }
 
-// What is found in the votes.
+// The answer for what a search finds in the votes.
 fn search<R: AllocGlobal + Threads + Sync, G: Gate + Sync>(
     rt: &R,
     votes: &Votes,
@@ -132,7 +132,7 @@ fn certificate(
     })
 }
 
-/// The file as it is printed: with the draws of a clean audit, if there are terms for them.
+/// The file as it is printed, with the draws of a clean audit if there are terms for them.
 pub(crate) fn printed(
     alloc: Global,
     file: AssertionFile,

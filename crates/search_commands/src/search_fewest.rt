@@ -45,7 +45,7 @@ pub fn answer<R: AllocGlobal + Threads + Sync, D: Desk>(
     after_votes(rt, &votes, task)
 }
 
-// The answer to the votes of the contest, unless there are more ballots than the cards that are asked for.
+// The answer for the votes of the contest, unless there are more ballots than the given number of cards.
 fn after_votes<R: AllocGlobal + Threads + Sync>(
     rt: &R,
     votes: &Votes,
@@ -60,7 +60,7 @@ fn after_votes<R: AllocGlobal + Threads + Sync>(
     search(rt, votes, task)
 }
 
-// What is found in the votes.
+// The answer for what a search finds in the votes.
 fn search<R: AllocGlobal + Threads + Sync>(
     rt: &R,
     votes: &Votes,
@@ -86,7 +86,7 @@ fn search<R: AllocGlobal + Threads + Sync>(
             order,
             margin,
         } => spent_sets(alloc, names, sets, &order, margin),
-        // It has no nodes.
+        // The search has no budget of nodes.
         Found::Spent { .. } => unreachable!(),
     }
 }

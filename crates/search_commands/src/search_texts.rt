@@ -13,12 +13,12 @@ pub(crate) fn certificate_order_text(alloc: Global, file: &AssertionFile) -> Res
 {
     match file.order() {
         Some(order) => order_text(alloc, file.candidates(), order),
-        // A certificate has one.
+        // A certificate has an order.
         None => Ok(String::new(alloc)),
     }
 }
 
-/// The lines that give the order of a certificate as reason for a full count.
+/// The lines that give the order of a certificate as the reason for a full count.
 pub(crate) fn full_count(alloc: Global, file: &AssertionFile, floor: u32) -> Result<Vec<u8>, Memory>
     ensures { IfOk result (λ text. text.items ≡ full_count_text file.now floor) }
 {

@@ -26,11 +26,11 @@ use set_tallies::Counted;
 use std::alloc::Global;
 use std::thread::Threads;
 
-// Ballots are counted, if they weren't as they were read, and a tie is raced for, by this many.
+// The number of workers that race for a tie, and that count the ballots if they weren't counted as they were read.
 const WORKERS: u32 = 1;
 
-/// The rounds of the contest, or its first tie if the contest isn't decided. If there is a tie, a race by one worker finds which; the
-/// task has what it may spend on each of its pieces.
+/// The rounds of the contest, or its first tie if the contest isn't decided. If there is a tie, a race by one worker finds out which it is.
+/// The task has what the race may spend on each of its pieces.
 pub fn answer<R: AllocGlobal + Threads + Sync, D: Desk, G: Gate + Sync>(
     rt: &R,
     desk: &mut D,
@@ -51,7 +51,7 @@ pub fn answer<R: AllocGlobal + Threads + Sync, D: Desk, G: Gate + Sync>(
     tabulate_all(rt, &votes, task.nodes, gate)
 }
 
-// The answer to the votes of the contest.
+// The answer for the votes of the contest.
 fn tabulate_all<R: AllocGlobal + Threads + Sync, G: Gate + Sync>(
     rt: &R,
     votes: &Votes,
@@ -69,7 +69,7 @@ fn tabulate_all<R: AllocGlobal + Threads + Sync, G: Gate + Sync>(
     }
 }
 
-// The answer to the tabulation. Without a tie it needs no race.
+// The answer for the tabulation. Without a tie it needs no race.
 fn told<R: AllocGlobal + Threads + Sync, G: Gate + Sync>(
     rt: &R,
     votes: &Votes,
@@ -145,7 +145,7 @@ fn tied_answer(alloc: Global, votes: &Votes, tie: &FirstTie, nodes: u32) -> Resu
     first_tie(alloc, votes.candidates(), tie.round, tie.tied, tie.tally)
 }
 
-// The answer if the race is spent at this candidate.
+// The answer if the race runs out of budget at this candidate.
 fn stopped_answer(
     alloc: Global,
     votes: &Votes,

@@ -16,7 +16,7 @@ pub(crate) fn contest_id() -> Name
     Name::read(b"trial").unwrap()
 }
 
-/// The ids of `n` candidates: their numbers, from 1 on.
+/// The ids of `n` candidates, which are their numbers from 1.
 pub(crate) fn trial_candidates(alloc: Global, n: u32) -> Result<Vec<Name>, Memory>
     requires { n ≤ MOST_CANDIDATES }
     ensures { IfOk result (λ names. names.items ≡ trial_candidates n) }

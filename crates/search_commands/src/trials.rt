@@ -17,7 +17,7 @@ use std::alloc::Global;
 use std::thread::Threads;
 use trial::trial_records;
 
-/// The lines of the trial, or its first tie, or that its budget is spent.
+/// Returns the lines of the trial, or its first tie, or that it ran out of budget.
 pub fn answer<R: AllocGlobal + Threads + Sync, G: Gate + Sync>(
     rt: &R,
     task: &TrialTask,

@@ -1,4 +1,4 @@
--- The cards of a list of entries: those that are there, and the number of a card by its id.
+-- The cards in a list of entries: which cards are there, and the number of a card by its id.
 use Rattle.std.proofs.Common.{◌⊎◌, ◌≡◌, ◌∙◌, ℕ, zero, suc, ◌+◌, ◌-◌, ◌≤◌, ◌<◌, ◌==◌, get_or, set, subst, length-append, true, false, cond, List, [], ◌∷◌, ◌++◌, Option, Some, None, map, length, position, refl, sym, ap, inl, inr, arith}
 use Rattle.std.specs.Prelude.{nat_eq, is_some, option_map}
 use Rattle.std.specs.List.{slice_get}
@@ -17,7 +17,7 @@ pub none-from : {X : Type 0} (o : Option X) → is_some o ≡ false → o ≡ No
 none-from None h = refl
 none-from (Some x) h = absurd (true≢false h)
 
--- ---- one entry more
+-- ---- one more entry
 
 missed : (entries : List Entry) (card other : ℕ) (seen : Seen) → nat_eq other card ≡ false →
     seen_in (entries ++ (card, seen) ∷ []) other ≡ seen_in entries other
@@ -59,7 +59,7 @@ at-last entries card seen =
     ap (seen_at (entries ++ (card, seen) ∷ [])) e ∙ at_some (entries ++ (card, seen) ∷ []) (length entries)
     ∙ ap (option_map (λ entry. entry.1)) (get-last entries (card, seen))
 
--- a new card's entry goes last, and its number stands at the card's place
+-- a new card's entry goes last, and the entry's number goes at the card's place
 pub places-put : (entries : List Entry) (places now : List ℕ) (card : ℕ) (seen : Seen) → ArePlaces entries places → seen_in entries card ≡ None →
     ((other : ℕ) → get_or now other 0 ≡ get_or places other 0) → card < length now →
     ArePlaces (entries ++ (card, seen) ∷ []) (set now card (length entries + 1))

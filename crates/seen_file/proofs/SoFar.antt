@@ -1,4 +1,4 @@
--- The entries so far, and the records that are still to come.
+-- The entries so far, and the records that are still to be read.
 use Rattle.std.proofs.Common.{◌≡◌, ◌∙◌, ℕ, ◌+◌, ◌≤◌, List, [], ◌∷◌, ◌++◌, Ok, Err, map, length, sym, ap, subst, inl, inr, None, arith, length-append}
 use Rattle.std.specs.List.{range_with_len}
 use Rattle.std.proofs.lemmas.List.{map-append, length-map}
@@ -20,7 +20,7 @@ pub record SeenSoFar (batches : Batches) (candidates : List Id) (rows : List Fie
   pub apart : Distinct (map (λ entry. entry.0) entries)
   pub within : (card : ℕ) → Member card (map (λ entry. entry.0) entries) → (1 ≤ card) × (card ≤ length (cards_of batches))
 
--- there are at most as many as cards
+-- there are at most as many entries as cards
 pub few : (batches : Batches) (candidates : List Id) (rows : List Fields) (entries : List Entry) (at : ℕ) (left : List Fields) →
     SeenSoFar batches candidates rows entries at left → length entries ≤ length (cards_of batches)
 few batches candidates rows entries at left so_far =

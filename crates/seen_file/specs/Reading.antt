@@ -1,4 +1,4 @@
--- What a seen file says, or which rule it breaks first, and in which record.
+-- What a seen file says, or the first rule that it breaks and the record that breaks it.
 use Rattle.std.specs.Prelude.{ℕ, ◌+◌, Bool, not, ◌&&◌, ◌||◌, if◌then◌else◌, List, [], ◌∷◌, ◌++◌, Option, Some, None, is_some, option_map, Result, Ok, Err, codes}
 use Rattle.std.specs.List.{list_any}
 use Rattle.csv_rows.specs.Fields.{numbered_records}
@@ -18,12 +18,12 @@ use Rattle.seen_file.specs.declared.fault.VRule.TheVariants.{V1, V2, V3, V5}
 abbrev pub is_missing : Id → Bool
 is_missing word = is_same word (codes "missing")
 
--- the word, and that only blank fields come after `missing`
+-- the word is one of the two, and only blank fields come after `missing`
 abbrev pub is_told : Id → Fields → Bool
 is_told word rest =
     is_same word (codes "ballot") || (is_missing word && not (list_any is_marked rest))
 
--- what it says of the card, if each preference is one of the candidates
+-- what the record says about the card, if each preference is one of the candidates
 abbrev pub seen_of_record : List Id → Id → Fields → Option Seen
 seen_of_record candidates word rest =
     if is_missing word then Some Missing else option_map Found (ranking_of candidates rest)
@@ -41,7 +41,7 @@ abbrev pub card_of : Batches → Id → Id → Fields → Result ℕ VRule
 card_of batches id word rest =
     if is_told word rest then placed (place_of (cards_of batches) id) else Err V1
 
--- what it says of that card, after these entries
+-- what it says about that card, after these entries
 abbrev pub entry_of_card : List Id → List Entry → Id → Fields → ℕ → Result Entry VRule
 entry_of_card candidates earlier word rest card =
     if is_some (seen_in earlier card) then Err V3
@@ -60,7 +60,7 @@ entry_of batches candidates earlier (id ∷ word ∷ rest) =
 
 -- ---- the file
 
--- after these entries come the records from number at on, each judged after those before
+-- these entries are followed by the records from number at on, each judged after those before it
 abbrev pub read_after : {A : Type 0} → (List A → Fields → Result A VRule) → List A → ℕ →
     List Fields → Result (List A) (Refusal VRule)
 read_after judged earlier at [] = Ok earlier
@@ -68,7 +68,7 @@ read_after judged earlier at (row ∷ rows) =
     and_then at (judged earlier row)
     (λ entry. read_after judged (earlier ++ entry ∷ []) (at + 1) rows)
 
--- what is seen by these records
+-- what these records say is seen
 abbrev pub seen_by_records : Batches → List Id → List Fields → Result (List Entry) (Refusal VRule)
 seen_by_records batches candidates rows = read_after (entry_of batches candidates) [] 1 rows
 

@@ -6,7 +6,7 @@ use file_fault::{Fault, Rule};
 /// The rules of a seen file, as the text of a refusal names them.
 #[derive(Clone, Copy, Debug, PartialEq, Eq)]
 pub enum VRule {
-    /// A record has a card's id and the word `ballot`, or `missing` with nothing after it.
+    /// A record has a card's id and either the word `ballot`, or `missing` with nothing after it.
     V1,
     /// The card is in the manifest.
     V2,
@@ -14,7 +14,7 @@ pub enum VRule {
     V3,
     /// Each preference is a candidate.
     V5,
-    /// The contest is in the ballot file, if the records are of several contests.
+    /// If the records are of several contests, the contest is in the ballot file.
     V6,
 }
 
@@ -32,5 +32,5 @@ impl Rule for VRule {
     }
 }
 
-/// Why a seen file isn't read: the place is a record's number from 1, without the blank ones.
+/// Why a seen file isn't read. The place is the number of a record, counted from 1 without blank records.
 pub type SeenFault = Fault<VRule>;

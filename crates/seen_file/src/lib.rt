@@ -1,4 +1,4 @@
-//! Seen files: what is seen of the cards that an audit looks at.
+//! Seen files, which say what is seen on the cards that an audit looks at.
 #![tactic(auto)]
 
 mod fault;

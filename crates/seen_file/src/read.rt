@@ -15,13 +15,13 @@ use std::alloc::Global;
 
 /// Reads a seen file.
 ///
-/// Each record is the id of a card, and then `ballot` with candidates' ids in order of preference, as in a ballot file, or `missing`.
-/// Spaces and tabs around a field are removed. If the only field of a record is then empty, it is skipped and has no number. A byte order
-/// mark at the front is removed.
+/// Each record is the id of a card, followed by `ballot` and the ids of candidates in order of preference, as in a ballot file, or followed
+/// by `missing`. Spaces and tabs around a field are removed. If the only field of a record is then empty, the record is skipped and has no
+/// number. A byte order mark at the front is removed.
 ///
-/// It is refused by the first rule that a record breaks, in this order: V1 if it has fewer than two fields, another word, or a field that
-/// isn't blank after `missing`; V2 if its card isn't in the manifest; V3 if an earlier record has its card; V5 if a preference isn't a
-/// candidate.
+/// A file is refused by the first rule that a record breaks, in this order: V1 if the record has fewer than two fields, another word, or a
+/// field that isn't blank after `missing`; V2 if its card isn't in the manifest; V3 if an earlier record has its card; V5 if a preference
+/// isn't a candidate.
 pub fn read_seen(
     alloc: Global,
     bytes: &[u8],
@@ -32,7 +32,7 @@ pub fn read_seen(
     ensures read { IfOk result (λ seen. seen_of manifest.now candidates.now bytes.now ≡ Ok seen) }
     ensures refused { IfErr result (Refuses (seen_of manifest.now candidates.now bytes.now)) }
 {
-    // Asks for what its contract says: the cards are few enough to count the records in a u32.
+    // Calls this for what its contract says: there are few enough cards to count the records in a u32.
     let _cards = manifest.cards();
     let mut rows = Rows::of(alloc, without_mark(bytes));
     let mut row = ByteRecord::new(alloc);

@@ -24,7 +24,7 @@ fn is_missing(word: &[u8]) -> bool
     word == b"missing".as_slice()
 }
 
-// Some field isn't blank.
+// Whether some field isn't blank.
 fn some_is_marked(fields: Fields<'_>) -> bool
     ensures { result ≡ list_any is_marked fields.entry }
 {
@@ -36,7 +36,7 @@ fn some_is_marked(fields: Fields<'_>) -> bool
     false
 }
 
-/// The fields of a record after its first `n`.
+/// Returns the fields of a record after its first `n`.
 pub fn fields_behind(row: &ByteRecord, n: usize) -> Fields<'_>
     ensures { result ≡ drop n (trimmed_fields (fields_of row.now)) }
 {
@@ -47,14 +47,14 @@ pub fn fields_behind(row: &ByteRecord, n: usize) -> Fields<'_>
     fields
 }
 
-/// Whether a record says something of its card: the word is `ballot`, or it is `missing` and the fields after it are blank.
+/// Returns whether a record says something about its card: the word is `ballot`, or it is `missing` and the fields after it are blank.
 pub fn is_told(word: &[u8], rest: Fields<'_>) -> bool
     ensures { result ≡ is_told word.now rest.entry }
 {
     word == b"ballot".as_slice() || is_missing(word) && !some_is_marked(rest)
 }
 
-/// What a record with this word, and these fields after it, says of its card, if each preference is one of a few candidates.
+/// Returns what a record with this word, and these fields after it, says about its card, if each preference is one of a few candidates.
 pub fn seen_of_record(candidates: &[Name], word: &[u8], rest: Fields<'_>) -> Option<Seen>
     requires { length candidates.now ≤ ROOM }
     ensures { result ≡ seen_of_record candidates.now word.now rest.entry }
@@ -68,8 +68,8 @@ pub fn seen_of_record(candidates: &[Name], word: &[u8], rest: Fields<'_>) -> Opt
     }
 }
 
-/// The number of the card of a record with this id of a card, this word, and these fields after it, or which rule it breaks: V1 if
-/// nothing is said of the card, V2 if the card isn't in the manifest.
+/// Returns the number of the card of a record with this card id, this word, and these fields after it, or the rule that the record breaks:
+/// V1 if it says nothing about the card, V2 if the card isn't in the manifest.
 pub fn card_of(manifest: &Manifest, id: &[u8], word: &[u8], rest: Fields<'_>) -> Result<u32, VRule>
     ensures value { result ≡ card_of manifest.now id.now word.now rest.entry }
     ensures first { IfOk result (λ card. 1 ≤ card) }
@@ -84,8 +84,8 @@ pub fn card_of(manifest: &Manifest, id: &[u8], word: &[u8], rest: Fields<'_>) ->
     }
 }
 
-/// What a record of this card, with this word, and these fields after it, says of the card, or which rule it breaks: V3 if the card is
-/// among these earlier ones, V5 if a preference isn't one of a few candidates.
+/// Returns what a record of this card, with this word and these fields after it, says about the card, or the rule that the record breaks:
+/// V3 if the card is among these earlier ones, V5 if a preference isn't one of a few candidates.
 pub fn entry_of_card(
     candidates: &[Name],
     earlier: &SeenCards,
@@ -107,7 +107,7 @@ pub fn entry_of_card(
     }
 }
 
-/// The number of the record's card and what the record says of it, or the first rule that the record breaks, after these cards.
+/// Returns the number of the record's card and what the record says about it, or the first rule that the record breaks, after these cards.
 pub fn entry_of(
     manifest: &Manifest,
     candidates: &[Name],

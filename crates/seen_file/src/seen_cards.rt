@@ -1,4 +1,4 @@
-// What is seen of cards, by their numbers.
+// What is seen on cards, by card number.
 ghost use Rattle.std.specs.Prelude.{◌≡◌, ◌<◌, ◌++◌, ◌∷◌, [], ℕ, slice_index_or, if◌then◌else◌, not, is_some, length, IfOk, OnOk, OnErr};
 ghost use Rattle.seen_file.specs.Seen.{seen_in};
 
@@ -7,15 +7,14 @@ use irv_base::Memory;
 use std::alloc::Global;
 use std::marker::Model;
 
-/// What is seen of some cards, each by its number. A card has a place in a table by its number, so it is found at once, whichever cards
-/// there are; the table takes four to eight bytes for each card up to the greatest number.
+/// What is seen on some cards, by card number. Each card's number has a place in a table, so a card is found in constant time, whichever
+/// cards there are. The table takes four to eight bytes for each card up to the largest number.
 ///
-/// To a contract it is the list of the cards' numbers, each once and with what is seen of the card, in the order in which they
-/// were put.
+/// In a contract, it is the list of the cards' numbers, each once and with what is seen on the card, in the order in which they were put.
 #[derive(Drop)]
 pub struct SeenCards {
     entries: Vec<(u32, Seen)>,
-    // at the number of each card that of its entry, counted from 1, or 0
+    // the number of each card's entry, counted from 1, or 0 if it has none, at the card's number
     places: Vec<u32>,
 }
 
@@ -30,7 +29,7 @@ impl Model for SeenCards {
     ghost invariant = { λ s. ArePlaces s.entries.items s.places.items };
 }
 
-// Makes enough places that the card has one. The new ones are free.
+// Makes enough places for the card to have one. The new places are free.
 fn reach(places: &mut Vec<u32>, card: u32) -> Result<(), Memory>
     ensures within { OnOk result (card < length places.new.items) }
     ensures same { (other : ℕ)
@@ -44,7 +43,7 @@ fn reach(places: &mut Vec<u32>, card: u32) -> Result<(), Memory>
 }
 
 impl SeenCards {
-    /// No cards.
+    /// Makes an empty list of cards.
     pub fn new(alloc: Global) -> SeenCards
         ensures { result ≡ [] }
     {
@@ -54,8 +53,8 @@ impl SeenCards {
         }
     }
 
-    /// Puts a card with what is seen of it, unless the card is there; answers whether it was new. For as many cards as
-    /// `u32::MAX` the answer is `Memory`.
+    /// Puts a card with what is seen on it, unless the card is already there. Returns whether the card was new. If there are already
+    /// `u32::MAX` cards, the answer is `Memory`.
     pub fn put(&mut self, card: u32, seen: Seen) -> Result<bool, Memory>
         ensures told { IfOk result (λ new. new ≡ not (is_some (seen_in self.old card))) }
         ensures put { IfOk result
@@ -75,7 +74,7 @@ impl SeenCards {
         Ok(true)
     }
 
-    /// What is seen of a card, if it is there.
+    /// Returns what is seen on a card, if the card is there.
     pub fn get(&self, card: u32) -> Option<Seen>
         ensures { result ≡ seen_in self.now card }
     {

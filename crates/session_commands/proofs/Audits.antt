@@ -1,4 +1,4 @@
--- An audit comes to one end.
+-- An audit has one end.
 use Rattle.std.proofs.Common.{Bool, true, false, List, length, ℕ, refl, ap}
 use Rattle.budget.specs.declared.budget.Budget.{Budget}
 use Rattle.ballots.specs.Ballots.{BallotFile}
@@ -33,7 +33,7 @@ module _ (task : AuditTask) where
       unless-only (other_digest task.assertions session.digests.assertions bytes) _ (digest-only task.assertions session.digests.assertions bytes)
       (told-only (refused_assertions task.assertions) (assertion_file_of bytes) (λ why. tt))
 
--- ---- where a check has to accept
+-- ---- if a check must accept
 
 accepted-agrees : (budget : Budget) (ballots : BallotFile) (file : FileContent) (next : Script) → Agree Same next → Agree Same (if_accepted budget ballots file next)
 accepted-agrees budget ballots file next agree = by (is_accepted budget ballots file) where

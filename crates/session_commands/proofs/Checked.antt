@@ -1,4 +1,4 @@
--- What a check answers tells whether it accepts.
+-- The answer of a check says whether it accepts.
 use Rattle.std.proofs.Common.{◌≡◌, ◌≢◌, inl, inr, ℕ, true, false, List, Some, Ok, Err, refl, sym, ap, subst, ◌∙◌}
 use Rattle.std.proofs.lemmas.Bool.{cases_Bool}
 use Rattle.budget.specs.declared.budget.Budget.{Budget}
@@ -106,7 +106,7 @@ module _ (budget : Budget) (ballots : BallotFile) (file : Content) where
       never_refused refusal (kind_on answer) (ap status_in ends ∙ ap (λ v. status_in (outcome v)) e)
   memory_alone refusal (inr memory) = memory
 
-  -- a script goes on where a check accepts the file, and ends with what a check says where it doesn't
+  -- a script continues if a check accepts the file, and otherwise ends with what the check says
   pub accepted_on : {x y : Served} (readings : Readings) (next : Script) (due : Outcome) → is_accepted budget ballots file ≡ true →
       HasCome readings x y (Runs next) due → HasCome readings x y (Runs (if_accepted budget ballots file next)) due
   accepted_on {x} {y} readings next due yes come =

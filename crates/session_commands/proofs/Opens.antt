@@ -1,4 +1,4 @@
--- An opening comes to one end.
+-- An opening has one end.
 use Rattle.std.proofs.Common.{◌≡◌, Bool, true, false, MatchBool, refl, sym, ap, ◌∙◌}
 use Rattle.ballots.specs.Ballots.{BallotFile}
 use Rattle.ballots.specs.Grammar.{ballots_of}

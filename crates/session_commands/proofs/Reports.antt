@@ -1,4 +1,4 @@
--- A report comes to one end.
+-- A report has one end.
 use Rattle.std.proofs.Common.{refl, sym, ap, ◌∙◌}
 use Rattle.cli_base.specs.Outcome.{outcome}
 use Rattle.cli_base.specs.Script.{Agree, AreOfKind, Same}

@@ -1,4 +1,4 @@
--- Whether a check accepts an assertion file, as a test: a command goes on with the files that it accepts.
+-- Whether a check accepts an assertion file, as a test. A command continues with the files that the check accepts.
 use Rattle.std.specs.Prelude.{ℕ, ◌-◌, Bool, true, false, ◌&&◌, [], ◌∷◌, length, is_none}
 use Rattle.std.specs.List.{list_all, list_any}
 use Rattle.irv_base.specs.Orders.{is_order}
@@ -12,7 +12,7 @@ use Rattle.cover_checker.specs.Checks.{findings}
 use Rattle.check_command.specs.Check.{Checks}
 use Rattle.cli_base.specs.Script.{Script, Ends}
 
--- the tabulated order of the contest elects this one
+-- the tabulated order of the contest elects this candidate
 abbrev pub is_won : BallotFile → ℕ → Bool
 is_won ballots winner =
     let n : ℕ = length ballots.candidates in
@@ -29,7 +29,7 @@ abbrev pub on_if : Bool → Script → Script → Script
 on_if true next other = next
 on_if false next other = other
 
--- a script goes on if a check accepts the file, and ends as the check does otherwise
+-- a script that continues if a check accepts the file, and otherwise ends as the check does
 abbrev pub if_accepted : Budget → BallotFile → Content → Script → Script
 if_accepted budget ballots file next =
     on_if (is_accepted budget ballots file) next (Ends (Checks budget ballots file))

@@ -1,4 +1,4 @@
--- `audit SESSION BALLOTS MANIFEST ASSERTIONS SEEN`: the session goes on by a round.
+-- `audit SESSION BALLOTS MANIFEST ASSERTIONS SEEN`: the session continues by a round.
 use Rattle.std.specs.Prelude.{ℕ, List, [], ◌∷◌, length, Result}
 use Rattle.ballots.specs.Ballots.{BallotFile}
 use Rattle.manifest.specs.Cards.{Batches, cards_of}
@@ -29,7 +29,7 @@ module _ (task : AuditTask) where
 
   -- ---- the files, the last one first
 
-  -- the session has to be one of the inputs, and goes on by the claims of the file
+  -- the session must be one of the inputs, and continues by the claims of the file
   abbrev pub after_check : Content → BallotFile → Batches → FileContent → Script
   after_check session ballots batches file =
       one_round task.session task.seen task.draws

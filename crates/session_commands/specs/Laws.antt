@@ -7,7 +7,7 @@ use Rattle.cover_checker.specs.Checks.{IsAnswer}
 use Rattle.cover_checker.specs.declared.checked.Checked.TheVariants.{Accepted}
 use Rattle.session_commands.specs.Accepted.{is_accepted}
 
--- the test of acceptance is that of the checker
+-- the test of acceptance is the checker's
 abbrev pub AcceptanceIsDecided : Type 0
 AcceptanceIsDecided =
     (budget : Budget) (ballots : BallotFile) (file : Content) →

@@ -22,7 +22,7 @@ use Rattle.input_files.specs.Refusals.{refused_assertions, refused_ballots}
 use Rattle.session_commands.specs.Accepted.{is_accepted}
 use Rattle.session_commands.specs.declared.open.Earlier.{Earlier}
 
--- the digests of all three files: the assertion file's joins them, since it is read last
+-- the digests of all three files; the assertion file's digest is added last, since this file is read last
 abbrev pub all_digests : Earlier → List ℕ → Digests
 all_digests earlier assertions =
     record {
@@ -43,7 +43,7 @@ Opens task ballots batches file digests verdict =
     MatchBool (is_accepted task.budget ballots file) (verdict ≡ opened task batches file digests)
     (Checks task.budget ballots file verdict)
 
--- once the ballots have their cards, the assertions are read
+-- once the ballots have their cards, the command reads the assertions
 abbrev pub after_manifest : OpenTask → BallotFile → Batches → Earlier → Script
 after_manifest task ballots batches earlier = Read task.assertions (λ bytes.
     go_on (told (refused_assertions task.assertions) (assertion_file_of bytes)) (λ file.

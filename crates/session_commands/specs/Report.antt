@@ -1,4 +1,4 @@
--- `report SESSION`: what is printed of a session.
+-- `report SESSION`: what is printed for a session.
 use Rattle.std.specs.Prelude.{ℕ, List, [], ◌∷◌}
 use Rattle.session_state.specs.Content.{Content}
 use Rattle.audit_report.specs.Session.{session_table}

@@ -1,4 +1,4 @@
-// `audit SESSION BALLOTS MANIFEST ASSERTIONS SEEN`: the session goes on by a round.
+// `audit SESSION BALLOTS MANIFEST ASSERTIONS SEEN`: the session continues by a round.
 ghost use Rattle.std.specs.Prelude.{◌≡◌, ◌≤◌};
 ghost use Rattle.desk.specs.Count.{Rose};
 ghost use Rattle.irv_base.specs.declared.limits.TheConstants.{MOST_DRAWS};
@@ -47,7 +47,7 @@ pub fn answer<R: AllocGlobal + Threads + Sync, D: Desk>(
     after_session(rt, desk, task, session)
 }
 
-// The ballots of the session's contest are read.
+// Reads the ballots of the session's contest.
 fn after_session<R: AllocGlobal + Threads + Sync, D: Desk>(
     rt: &R,
     desk: &mut D,
@@ -69,7 +69,7 @@ fn after_session<R: AllocGlobal + Threads + Sync, D: Desk>(
     after_ballots(rt, desk, task, session, &ballots)
 }
 
-// The manifest is read, in which each ballot has a card.
+// Reads the manifest, in which each ballot must have a card.
 fn after_ballots<R: AllocGlobal + Threads + Sync, D: Desk>(
     rt: &R,
     desk: &mut D,
@@ -99,7 +99,7 @@ fn after_ballots<R: AllocGlobal + Threads + Sync, D: Desk>(
     after_manifest(rt, desk, task, session, ballots, &cards)
 }
 
-// The assertions are read. A check has to accept them.
+// Reads the assertions. A check must accept them.
 fn after_manifest<R: AllocGlobal + Threads + Sync, D: Desk>(
     rt: &R,
     desk: &mut D,
@@ -127,7 +127,7 @@ fn after_manifest<R: AllocGlobal + Threads + Sync, D: Desk>(
     after_check(alloc, desk, task, session, ballots, cards, &file)
 }
 
-// The session has to be one of the inputs, and goes on by the claims of the file.
+// The session must be one of the inputs, and continues by the claims of the file.
 fn after_check<D: Desk>(
     alloc: Global,
     desk: &mut D,

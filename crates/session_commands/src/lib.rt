@@ -1,4 +1,4 @@
-//! The commands on the session of an audit, one a module: it is opened, goes on by a round, is printed.
+//! The commands on the session of an audit, one per module: they open it, continue it by a round, and print it.
 #![tactic(auto)]
 
 mod accepted;

@@ -65,7 +65,7 @@ pub fn answer<R: AllocGlobal + Threads + Sync, D: Desk>(
     after_ballots(rt, desk, task, &ballots, digest)
 }
 
-// The manifest is read, in which each ballot has a card. The ballot file has this digest.
+// Reads the manifest, in which each ballot must have a card. The ballot file has this digest.
 fn after_ballots<R: AllocGlobal + Threads + Sync, D: Desk>(
     rt: &R,
     desk: &mut D,
@@ -93,7 +93,7 @@ fn after_ballots<R: AllocGlobal + Threads + Sync, D: Desk>(
     after_manifest(rt, desk, task, ballots, &cards.manifest, &earlier)
 }
 
-// The assertions are read, once the ballots have their cards.
+// Reads the assertions, once the ballots have their cards.
 fn after_manifest<R: AllocGlobal + Threads + Sync, D: Desk>(
     rt: &R,
     desk: &mut D,
@@ -139,7 +139,7 @@ fn open<R: AllocGlobal + Threads + Sync>(
     if let Some(answer) = unless_accepted(rt, ballots, file, task.budget)? {
         return Ok(answer);
     }
-    // Asks for what their contracts say of the ballots, of the file's margin and of its claims: a session may begin with them.
+    // Called for what their contracts say about the ballots, the file's margin and its claims: a session may begin with them.
     let _ids = ballots.ids();
     let _margin = file.margin();
     let _claims = file.claims();

@@ -1,4 +1,4 @@
-// The assertions of a session: the file has the digest that the session has of it, before it is judged.
+// The assertions of a session. The file is judged only if it has the digest that the session has for it.
 ghost use Rattle.input_files.specs.Judged.{IsJudged};
 ghost use Rattle.session_commands.specs.Audit.{same_assertions};
 

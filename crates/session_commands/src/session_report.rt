@@ -1,4 +1,4 @@
-// `report SESSION`: what is printed of a session.
+// `report SESSION`: what is printed for a session.
 ghost use Rattle.std.specs.Prelude.{◌≡◌, ◌≤◌};
 ghost use Rattle.desk.specs.Count.{Rose};
 ghost use Rattle.cli_base.specs.Accounts.{IsAccountedFor};

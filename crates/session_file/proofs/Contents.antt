@@ -1,4 +1,4 @@
--- What is said of a session's object.
+-- What is said about a session's object.
 use Rattle.std.proofs.Common.{inl, inr, ◌≡◌, ℕ, true, List, Option, None, Some, refl, ap, ◌∙◌}
 use Rattle.std.specs.Prelude.{if◌then◌else◌}
 use Rattle.std.specs.Str.{IsUtf8, is_utf8}

@@ -1,4 +1,4 @@
--- The values that the elements of a list are, one after the other.
+-- The values that the elements of a list are, in order.
 use Rattle.std.proofs.Common.{◌≡◌, ℕ, ◌+◌, ◌<◌, List, [], ◌∷◌, ◌++◌, length, get_or, take, drop, map, Option, Some, None, refl, sym, ap, ◌∙◌, arith}
 use Rattle.std.proofs.lemmas.List.{get_or-map, drop_more, take_more, take_all, take-append-drop, length-map}
 use Rattle.serde_json.specs.Data.{Data}

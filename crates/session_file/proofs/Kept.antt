@@ -1,4 +1,4 @@
--- Whether a session is kept, once its lists are read.
+-- Whether a session is kept, after its lists are read.
 use Rattle.std.proofs.Common.{◌≡◌, ◌==◌, Bool, true, ◌&&◌, None, Some, ap}
 use Rattle.std.specs.Prelude.{if◌then◌else◌}
 use Rattle.std.proofs.Math.Bool.{beq}
@@ -31,7 +31,7 @@ module _ (content : Content) where
       (and_from (is_name content.contest) (is_seed content.seed) f.contest f.seed)
       (session-from content.session (record { limits = s.limits; session_is = s.session }))
 
-  -- a sound session, of which the file says rightly whether it is signed off
+  -- a sound session whose file correctly says whether it is signed off
   pub kept-sound : (heading : Heading) → (heading.version == VERSION) ≡ true → IsSound content → HasForms content →
       beq heading.signed_off (is_signed_off content.session) ≡ true → sound_session heading content ≡ Some content
   kept-sound heading v s f b =

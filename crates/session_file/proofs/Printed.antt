@@ -1,4 +1,4 @@
--- The printed risks of a round, one after the other.
+-- The printed risks of a round, in order.
 use Rattle.std.proofs.Common.{inl, inr, ◌≡◌, ◌≢◌, ◌==◌, ℕ, ◌+◌, ◌<◌, true, false, List, length, get_or, sym, ap, ◌∙◌, arith}
 use Rattle.std.specs.Prelude.{zip}
 use Rattle.std.specs.Cmp.Lexicographic.{pointwise, bytes_decides, same_text, unequal}
@@ -25,11 +25,11 @@ module _ (cards gamma : ℕ) (margins : List ℕ) (counts : List Counts) (same :
       get_or-map (λ claim. printed_risk cards claim.0 gamma claim.1) (zip margins counts) i (0, d) 0 inside
       ∙ ap (λ claim. printed_risk cards claim.0 gamma claim.1) (get_or-zip margins counts i (0, d) within counted)
 
-  -- another number of risks
+  -- a different number of risks
   pub too_few : (risks : List ℕ) → (length risks ≢ length margins) → pointwise ◌==◌ risks (risks_of cards gamma margins counts) ≡ false
   too_few risks apart = unequal ◌==◌ risks (risks_of cards gamma margins counts) (λ e. apart (e ∙ length-risks))
 
-  -- another risk for some claim
+  -- a different risk for some claim
   pub another : (risks : List ℕ) (i : ℕ) (d : Counts) → i < length margins →
       (get_or risks i 0 ≢ printed_risk cards (get_or margins i 0) gamma (get_or counts i d)) →
       pointwise ◌==◌ risks (risks_of cards gamma margins counts) ≡ false

@@ -31,7 +31,7 @@ use Rattle.session_file.proofs.Rounds.{a_round}
 
 -- ---- lists
 
--- what each is shown as says what it is
+-- what each element is shown as says what the element is
 each-back : {A : Type 0} (kind : Data → Option A) (shown : A → Data) (P : A → Type 0) → ((x : A) → P x → kind (shown x) ≡ Some x) → (xs : List A) → All P xs →
     each kind (map shown xs) ≡ Some xs
 each-back kind shown P back [] all = refl

@@ -1,4 +1,4 @@
--- Where a file is refused by one of some steps.
+-- A file that one of several steps refuses.
 use Rattle.std.proofs.Common.{◌≡◌, Option, Some, ap, subst, sym}
 use Rattle.session_file.specs.Faults.{Refuses}
 use Rattle.assertion_file.specs.Stated.{◌>>=◌}

@@ -1,4 +1,4 @@
--- What is said of a round.
+-- What is said about a round.
 use Rattle.std.proofs.Common.{◌≡◌, ℕ, List, Option, None, Some, ap, ◌∙◌}
 use Rattle.serde_json.specs.Data.{Data}
 use Rattle.km_risk.specs.declared.draws.Counts.{Counts}

@@ -1,4 +1,4 @@
--- The value of a session is exact, and nests little.
+-- The value of a session is exact, and has little nesting.
 use Rattle.std.proofs.Common.{◌≡◌, ℕ, ◌<◌, ◌≤◌, ◌^◌, true, nat_lt, ltb-true, List, [], ◌∷◌, map, All, refl, subst, sym, arith}
 use Rattle.std.specs.Str.{IsAscii, IsUtf8}
 use Rattle.std.proofs.lemmas.Bool.{and_parts}
@@ -27,7 +27,7 @@ use Rattle.session_file.specs.Text.{counts_value, numbers_value, round_value, se
 
 -- ---- numbers
 
--- a number of 64 bits
+-- a 64-bit number
 abbrev IsShort : ℕ → Type 0
 IsShort n = n < 2 ^ 64
 

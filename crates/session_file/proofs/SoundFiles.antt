@@ -1,4 +1,4 @@
--- What is read of a session file is sound, and has its forms.
+-- What is read from a session file is sound, and has its forms.
 use Rattle.std.proofs.Common.{◌≡◌, ◌==◌, ℕ, ◌<◌, true, ◌&&◌, List, Option, None, Some, Result, Ok, Err, sym, ap, subst, ◌∙◌, arith}
 use Rattle.std.specs.Prelude.{codes}
 use Rattle.std.specs.Result.{result_ok}

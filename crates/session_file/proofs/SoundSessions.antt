@@ -1,4 +1,4 @@
--- The test of a session decides whether it keeps what a session keeps.
+-- The test of a session decides whether it keeps the invariants of a session.
 use Rattle.std.proofs.Common.{◌≡◌, ◌==◌, ℕ, suc, ◌<◌, ◌≤◌, true, ◌&&◌, List, [], ◌∷◌, length, get_or, map, All, AllPairs, refl, sym, eqb-true, eq-eqb, arith}
 use Rattle.std.specs.Prelude.{nat_le, nat_lt}
 use Rattle.std.specs.List.{list_all}
@@ -38,7 +38,7 @@ margins-from cards margins h =
     let m = get_or margins k d in
     let (least, most) = h.each k d within in and_from (nat_le 1 m) (nat_le m cards) (le-leb 1 m least) (le-leb m cards most)))
 
--- ---- draws that rise
+-- ---- draws that increase
 
 rises-all : (before : ℕ) (ns : List ℕ) → rises_above before ns ≡ true → All (λ n. before < n) ns
 rises-all before [] h = λ k d within. absurd (omega arith)

@@ -1,4 +1,4 @@
--- The worked examples: sessions of one card, a file that isn't in the form of printed ones, and digits of digests.
+-- Worked examples: sessions of one card, a file that isn't in the form in which files are printed, and digits of digests.
 use Rattle.std.specs.Prelude.{ℕ, List, [], ◌∷◌, ◌++◌, codes, replicate}
 use Rattle.km_risk.specs.Counts.{clean}
 use Rattle.session_state.specs.declared.digests.Digests.{Digests}
@@ -13,7 +13,7 @@ some_digests = record {
   assertions = replicate 32 0x2C;
 }
 
--- that many draws of one claim, all as recorded, and their risk
+-- this many draws of one claim, all as recorded, and their risk
 abbrev pub clean_round : ℕ → ℕ → Round
 clean_round draws risk = record { draws = draws; counts = clean draws ∷ []; risks = risk ∷ [] }
 
@@ -31,7 +31,7 @@ one_card seed rounds = record {
   session = record { cards = 1; margins = 1 ∷ []; limit = 50000; gamma = 100; rounds = rounds };
 }
 
--- what the text of each begins with: all that comes before its rounds
+-- the beginning of each text: everything before its rounds
 abbrev pub head : List ℕ
 head =
     codes "{\"assertions\":\"2c2c2c2c2c2c2c2c2c2c2c2c2c2c2c2c2c2c2c2c2c2c2c2c2c2c2c2c2c2c2c2c\"," ++
@@ -42,7 +42,7 @@ head =
 
 -- ---- a file in another form
 
--- with the members in another order, a further one, and upper-case digits
+-- the members in another order, an extra member, and upper-case digits
 abbrev pub begun_text : List ℕ
 begun_text = codes "{\"version\":1,\"by\":null,\"signed_off\":false,\"seed\":\"2024\",\"rounds\":[],\"margins\":[1],\"manifest\":\"0A01010101010101010101010101010101010101010101010101010101010101\",\"limit\":50000,\"gamma\":100,\"contest\":\"7\",\"cards\":1,\"ballots\":\"AB00000000000000000000000000000000000000000000000000000000000000\",\"assertions\":\"2C2C2C2C2C2C2C2C2C2C2C2C2C2C2C2C2C2C2C2C2C2C2C2C2C2C2C2C2C2C2C2C\"}"
 

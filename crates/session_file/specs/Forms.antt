@@ -1,10 +1,10 @@
--- The forms of a session's texts and digests, which their types have.
+-- The forms of a session's texts and digests, which their types ensure.
 use Rattle.std.specs.Prelude.{◌≡◌, ◌<◌, ℕ, List, length, All, IsTrue}
 use Rattle.irv_base.specs.Names.{is_name}
 use Rattle.sampler.specs.Seeds.{is_seed}
 use Rattle.session_state.specs.Content.{Content}
 
--- a digest of SHA-256
+-- a SHA-256 digest
 pub record IsDigest (digest : List ℕ) : Type 0 where
   pub long : length digest ≡ 32
   pub bytes : All (λ byte. byte < 256) digest

@@ -12,7 +12,7 @@ TextReadsBack =
     (content : Content) → IsSound content → HasForms content →
     json_of (session_text content) ≡ Some (session_value content)
 
--- what is read keeps what a session keeps
+-- what is read keeps the invariants of a session
 abbrev pub ReadIsSound : Type 0
 ReadIsSound =
     (bytes : List ℕ) (content : Content) → session_of bytes ≡ Some content →

@@ -25,7 +25,7 @@ content_with heading margins rounds = record {
       };
 }
 
--- the session is sound, and the file says rightly whether it is signed off
+-- the session is sound, and the file correctly says whether it is signed off
 abbrev pub is_kept : Heading → Content → Bool
 is_kept heading content =
     heading.version == VERSION && is_sound content

@@ -1,4 +1,4 @@
--- Whether a session keeps what a session keeps, as a test.
+-- Whether a session keeps the invariants of a session, as a test.
 use Rattle.std.specs.Prelude.{ℕ, Bool, true, ◌&&◌, ◌==◌, nat_le, nat_lt, List, [], ◌∷◌, length, map}
 use Rattle.std.specs.List.{list_all}
 use Rattle.std.specs.Cmp.Lexicographic.{pointwise}
@@ -28,13 +28,13 @@ is_draws draws = nat_le 1 draws && nat_le draws MOST_DRAWS
 abbrev pub is_margin : ℕ → ℕ → Bool
 is_margin cards margin = nat_le 1 margin && nat_le margin cards
 
--- there is one, and each is 1 to the number of cards
+-- there is a margin, and each is 1 to the number of cards
 abbrev pub are_margins : ℕ → List ℕ → Bool
 are_margins cards margins = nat_le 1 (length margins) && list_all (is_margin cards) margins
 
 -- ---- rounds
 
--- the first is above this number, and each other one above the one before it
+-- the first number is above this one, and every other number is above the one before it
 abbrev pub rises_above : ℕ → List ℕ → Bool
 rises_above before [] = true
 rises_above before (draws ∷ later) = nat_lt before draws && rises_above draws later
@@ -43,12 +43,12 @@ rises_above before (draws ∷ later) = nat_lt before draws && rises_above draws 
 abbrev pub has_counts : List ℕ → Round → Bool
 has_counts margins round = length round.counts == length margins
 
--- the counts of each claim are of all draws
+-- the counts of each claim are over all draws
 abbrev pub counts_all : Round → Bool
 counts_all round = list_all (λ counts. draws_in counts == round.draws) round.counts
 
 module _ (cards gamma : ℕ) (margins : List ℕ) (round : Round) where
-  -- there is a risk for each claim, which is the printed risk of its counts
+  -- each claim has a risk, which is the printed risk of its counts
   abbrev pub has_risks : Bool
   has_risks = pointwise ◌==◌ round.risks (risks_of cards gamma margins round.counts)
 

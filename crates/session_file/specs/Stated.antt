@@ -20,13 +20,13 @@ each kind (value ∷ values) = do
   rest ← each kind values
   Some (first ∷ rest)
 
--- the 32 bytes of 64 hexadecimal digits, of which letters are of either case
+-- the 32 bytes of 64 hexadecimal digits, whose letters may be in either case
 abbrev pub digest : Data → Option (List ℕ)
 digest value = do
   text ← as_str value
   result_ok (decode_sized text 32)
 
--- in units of 10^-18
+-- a risk in units of 10^-18
 abbrev pub risk : Data → Option ℕ
 risk value = do
   any ← as_number value
@@ -50,7 +50,7 @@ counts value = do
 
 -- ---- a round
 
--- its members, with the elements of its lists as they are
+-- the members of a round, with the elements of its lists as they are
 pub record Entry : Type 0 where
   pub counts : List Data
   pub draws : ℕ
@@ -72,7 +72,7 @@ round value = do
 
 -- ---- the session's object
 
--- its members, with the elements of its lists as they are
+-- the members of a session, with the elements of its lists as they are
 pub record Heading : Type 0 where
   pub contest : List ℕ
   pub margins : List Data

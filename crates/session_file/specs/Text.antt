@@ -9,7 +9,7 @@ use Rattle.session_state.specs.Content.{Content}
 use Rattle.session_state.specs.Sessions.{Round, is_signed_off}
 use Rattle.session_file.specs.declared.print.TheConstants.{VERSION}
 
--- in lower-case hexadecimal digits
+-- the digest in lower-case hexadecimal digits
 abbrev pub digest_value : List ℕ → Data
 digest_value digest = string (encode_lower digest)
 

@@ -1,4 +1,4 @@
--- The members that were looked up in a value, as what they state.
+-- The members found in a value, as what they state.
 use Rattle.std.specs.Prelude.{map}
 use Rattle.serde_json.specs.View.{view}
 use Rattle.session_file.specs.Stated.{Entry, Heading}

@@ -8,7 +8,7 @@ ghost use Rattle.session_file.specs.Sound.{are_margins, is_round, rises_above};
 ghost use Rattle.session_file.specs.Stated.{digest};
 ghost use Rattle.session_file.specs.Text.{session_text};
 
-/// One card that is drawn four times and then once more, which confirms the only assertion.
+/// One card is drawn four times and then once more, which confirms the only assertion.
 pub fn one_card()
     ensures sound { IsSound (examples.one_card (codes "2024")
         (examples.four_draws ∷ examples.five_draws ∷ [])) }
@@ -35,7 +35,7 @@ pub fn escaped_seed()
         ++ codes "\"rounds\":[],\"seed\":\"a \\\"b\\\\\",\"signed_off\":false,\"version\":1}\n" }
 {}
 
-/// Five draws of the only card; with a risk that is a unit too small, at another gamma, and with no claim.
+/// Five draws of the only card, also with a risk that is one unit too small, with another gamma, and with no claim.
 pub fn five_draws()
     ensures right { IsTrue (is_round 1 100 (1 ∷ []) examples.five_draws) }
     ensures risk { is_round 1 100 (1 ∷ []) (examples.clean_round 5 48282842081079906) ≡ false }
@@ -43,14 +43,14 @@ pub fn five_draws()
     ensures no_claim { is_round 1 100 [] examples.five_draws ≡ false }
 {}
 
-/// Draws that rise, draws that stay, and a first round without a draw.
+/// Draws that increase, draws that stay the same, and a first round without a draw.
 pub fn rising()
     ensures rise { IsTrue (rises_above 0 (4 ∷ 5 ∷ [])) }
     ensures stay { rises_above 0 (4 ∷ 4 ∷ []) ≡ false }
     ensures no_draw { rises_above 0 (0 ∷ []) ≡ false }
 {}
 
-/// The least and the greatest margin of twelve cards, and those beyond.
+/// The smallest and largest margins of twelve cards, and the margins just outside them.
 pub fn margins()
     ensures within { IsTrue (are_margins 12 (1 ∷ 12 ∷ [])) }
     ensures above { are_margins 12 (1 ∷ 13 ∷ []) ≡ false }
@@ -58,14 +58,14 @@ pub fn margins()
     ensures no_claim { are_margins 12 [] ≡ false }
 {}
 
-/// Digits of either case; a letter that is no digit, and two digits too few.
+/// Digits in either case, a letter that isn't a digit, and two digits too few.
 pub fn digests()
     ensures either_case { digest (string examples.of_either_case) ≡ Some (replicate 32 0x2C) }
     ensures letter { digest (string examples.with_a_letter) ≡ None }
     ensures too_few { digest (string examples.two_too_few) ≡ None }
 {}
 
-/// The members in another order, and a further one.
+/// The members in another order, and an extra member.
 pub fn begun()
     ensures { session_of examples.begun_text ≡ Some (examples.one_card (codes "2024") []) }
 {}

@@ -10,9 +10,9 @@ use std::fmt;
 /// Why a session file isn't read.
 #[derive(Clone, Copy, Debug, PartialEq, Eq)]
 pub enum SessionFault {
-    /// The bytes are no session file: rule S1.
+    /// The bytes aren't a session file: rule S1.
     Refused,
-    /// Memory could not be had.
+    /// Memory could not be allocated.
     Memory,
 }
 

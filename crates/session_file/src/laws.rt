@@ -1,4 +1,4 @@
-//! The laws of the session file: each holds of every value that it names, and has no code.
+//! The laws of the session file. Each holds of every value that it names, and has no code.
 ghost use Rattle.std.specs.Prelude.{◌≡◌};
 ghost use Rattle.session_file.specs.Laws.{PrintedReadsBack, ReadIsSound, TextReadsBack};
 ghost use Rattle.session_file.specs.declared.print.TheConstants.{VERSION};
@@ -8,7 +8,7 @@ pub fn text_reads_back()
     ensures { TextReadsBack }
 {}
 
-/// What is read keeps what a session keeps.
+/// What is read keeps the invariants of a session.
 pub fn read_is_sound()
     ensures { ReadIsSound }
 {}
@@ -18,7 +18,7 @@ pub fn printed_reads_back()
     ensures { PrintedReadsBack }
 {}
 
-/// The number of the form's version.
+/// The version number of the format.
 pub fn version()
     ensures { VERSION ≡ 1 }
 {}

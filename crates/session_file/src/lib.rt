@@ -1,5 +1,4 @@
-//! The session file: what is kept of an audit between its rounds, as a JSON text that anyone can check, and read
-//! exactly.
+//! The session file stores an audit between its rounds, as a JSON text that anyone can check and that is read exactly.
 #![tactic(auto)]
 
 pub mod examples;

@@ -1,4 +1,4 @@
-// The lists of a session: each of their elements is of one kind.
+// The lists of a session. All elements of a list are of one kind.
 ghost use Rattle.std.specs.Prelude.{◌≡◌, Option, Some, map, IfOk, IfErr};
 ghost use Rattle.serde_json.specs.Data.{Data};
 ghost use Rattle.serde_json.specs.View.{view};
@@ -14,12 +14,12 @@ use serde_json::Value;
 use session_state::DoneRound;
 use std::alloc::Global;
 
-/// What the values of a list may state: all of them are of this kind.
+/// What the values of a list may state. All of them are of this kind.
 pub trait Stated: Sized {
     /// What a value states, if it is of this kind.
     ghost kind: { Data → Option Self };
 
-    /// What the value states.
+    /// Reads what the value states.
     fn stated(alloc: Global, value: &Value) -> Result<Self, SessionFault>
         ensures read { IfOk result (λ read. kind (view value.now) ≡ Some read) }
         ensures refused { IfErr result (Refuses (kind (view value.now))) };
@@ -64,7 +64,7 @@ impl Stated for DoneRound {
     }
 }
 
-/// What the values state, each of them.
+/// Reads what each of the values states.
 pub fn list<T: Stated + Drop>(alloc: Global, values: &[Value]) -> Result<Vec<T>, SessionFault>
     ensures read { IfOk result (λ read. each T.kind (map view values.now) ≡ Some read.items) }
     ensures refused { IfErr result (Refuses (each T.kind (map view values.now))) }

@@ -21,7 +21,7 @@ pub struct Heading<'a> {
     pub margins: &'a [Value],
     /// The seed of the draws.
     pub seed: &'a str,
-    /// The rounds that are done.
+    /// The finished rounds.
     pub rounds: &'a [Value],
     /// Whether the file says that it is signed off.
     pub signed_off: bool,
@@ -38,13 +38,13 @@ pub struct Heading<'a> {
 pub struct Entry<'a> {
     /// The counts of each claim.
     pub counts: &'a [Value],
-    /// How many draws there were in all.
+    /// The number of draws in total.
     pub draws: u32,
     /// The printed risk of each claim.
     pub risks: &'a [Value],
 }
 
-/// The risk that the value is, in units of 10^-18.
+/// Returns the risk that the value is, in units of 10^-18.
 pub fn risk(value: &Value) -> Option<u64>
     ensures { result ≡ risk (view value.now) }
 {
@@ -67,7 +67,7 @@ fn counts_from(values: &[Value]) -> Option<Counts>
     })
 }
 
-/// The counts that the value is: a list of five numbers.
+/// Returns the counts that the value is: a list of five numbers.
 pub fn counts(value: &Value) -> Option<Counts>
     ensures { result ≡ counts (view value.now) }
 {
@@ -97,7 +97,7 @@ fn digests_in(value: &Value) -> Option<Digests>
     })
 }
 
-/// The members of a round, if all are there and of their kind.
+/// Returns the members of a round, if all are present and of their kind.
 #[tactic(auto, unfolding(crate::specs::Stated::entry_in))]
 pub fn entry_in(value: &Value) -> Option<Entry<'_>>
     ensures { option_map stated_entry result ≡ entry_in (view value.now) }
@@ -109,7 +109,7 @@ pub fn entry_in(value: &Value) -> Option<Entry<'_>>
     })
 }
 
-/// The members of a session, if all are there and of their kind.
+/// Returns the members of a session, if all are present and of their kind.
 #[tactic(auto, unfolding(crate::specs::Stated::heading_in))]
 pub fn heading_in(value: &Value) -> Option<Heading<'_>>
     ensures { option_map stated_heading result ≡ heading_in (view value.now) }

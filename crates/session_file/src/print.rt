@@ -16,7 +16,7 @@ use serde_json::{Map, Value, put};
 use session_state::{Digests, Session, signed_off};
 use std::alloc::{AllocError, Global};
 
-/// The version of the session file's form.
+/// The version of the session file's format.
 pub const VERSION: u32 = 1;
 
 // Adds the digests of the files to the members.
@@ -105,7 +105,7 @@ fn session_value(alloc: Global, s: &Session) -> Result<Value, AllocError>
     Ok(Value::Object(members))
 }
 
-/// The bytes of a session file of version 1: one JSON object in compact form, its members in byte order, and a line feed.
+/// Returns the bytes of a session file of version 1: one JSON object in compact form, with its members in byte order, and a line feed.
 pub fn print_session(alloc: Global, s: &Session) -> Result<Vec<u8>, Memory>
     ensures text { IfOk result (λ text. text.items ≡ session_text s.now) }
     ensures json { IfOk result (λ text. json_of text.items ≡ Some (session_value s.now)) }

@@ -16,7 +16,7 @@ use serde_json::Value;
 use session_state::{DoneRound, Session, signed_off};
 use std::alloc::Global;
 
-// The session with these members, margins and rounds, if it is sound and the file says rightly whether it is signed off.
+// The session with these members, margins and rounds, if it is sound and the file correctly says whether it is signed off.
 fn sound_session(
     heading: &Heading<'_>,
     margins: Vec<u32>,
@@ -77,14 +77,14 @@ fn content_of(alloc: Global, value: &Value) -> Result<Session, SessionFault>
 
 /// Reads a session file of version 1.
 ///
-/// The bytes are one JSON object, with its members in any order. Further members are skipped, and if a name is repeated the last one
-/// counts. Numbers are whole ones, without a point or an exponent, and the hexadecimal digits of a digest may be of either case.
+/// The bytes are one JSON object, with its members in any order. Other members are skipped. If a name is repeated, the last member counts.
+/// Numbers are integers without a point or an exponent. The hexadecimal digits of a digest may be in either case.
 ///
-/// It is refused exactly if the bytes aren't JSON; a member is missing or of another kind, or a digest doesn't have 64 hexadecimal
-/// digits; the version isn't `VERSION`; the contest's id or the seed is none; the cards are above `MOST_CARDS`, the limit isn't 1 to
-/// `GREATEST_LIMIT`, gamma isn't 1 to `GREATEST_GAMMA`, or a round's draws aren't 1 to `MOST_DRAWS`; there is no margin, or one isn't 1
-/// to the number of cards; the draws of the rounds don't rise; a round has another number of counts or of risks than there are margins,
-/// counts that aren't five numbers with the round's draws as their sum, or a risk that isn't the printed risk of its counts; or
+/// A file is refused exactly if the bytes aren't JSON; a member is missing or of another kind, or a digest doesn't have 64 hexadecimal
+/// digits; the version isn't `VERSION`; the contest's id isn't an id, or the seed isn't a seed; the cards are above `MOST_CARDS`, the limit
+/// isn't 1 to `GREATEST_LIMIT`, gamma isn't 1 to `GREATEST_GAMMA`, or a round's draws aren't 1 to `MOST_DRAWS`; there is no margin, or a
+/// margin isn't 1 to the number of cards; the draws don't increase from round to round; a round's number of counts or of risks isn't the
+/// number of margins, its counts aren't five numbers whose sum is the round's draws, or a risk isn't the printed risk of its counts; or
 /// `signed_off` isn't whether each claim is confirmed at the last round.
 pub fn read_session(alloc: Global, bytes: &[u8]) -> Result<Session, SessionFault>
     ensures read { IfOk result (λ session. session_of bytes.now ≡ Some session) }

@@ -1,4 +1,4 @@
-// Whether a session keeps what a session keeps.
+// Whether a session keeps the invariants of a session.
 ghost use Rattle.std.specs.Prelude.{◌≡◌, ◌≤◌, ◌&&◌, All, IsTrue, length, map};
 ghost use Rattle.std.specs.List.{list_all};
 ghost use Rattle.irv_base.specs.declared.limits.TheConstants.{MOST_DRAWS};
@@ -10,7 +10,7 @@ use irv_base::{GREATEST_GAMMA, GREATEST_LIMIT, MOST_CARDS, MOST_DRAWS};
 use km_risk::{Counts, risk};
 use session_state::DoneRound;
 
-/// Whether the cards, the risk limit and gamma are within the limits of an audit.
+/// Returns whether the cards, the risk limit and gamma are within the limits of an audit.
 pub fn are_limits(cards: u32, limit: u32, gamma: u32) -> bool
     ensures { result ≡ (is_cards cards && is_limit limit && is_gamma gamma) }
 {
@@ -31,7 +31,7 @@ fn each_margin(cards: u32, margins: &[u32]) -> bool
     margins.iter().all(|margin| is_margin(cards, *margin))
 }
 
-/// Whether there is a margin, and each is 1 to the number of cards.
+/// Returns whether there is a margin, and each margin is 1 to the number of cards.
 pub fn are_margins(cards: u32, margins: &[u32]) -> bool
     ensures { result ≡ are_margins cards margins.now }
 {
@@ -44,7 +44,7 @@ fn is_draws(draws: u32) -> bool
     1 <= draws && draws <= MOST_DRAWS
 }
 
-// How many draws there are in the counts.
+// The number of draws in the counts.
 fn draws_in(counts: &Counts) -> u64
     ensures { result ≡ draws_in counts.now }
 {
@@ -55,7 +55,7 @@ fn draws_in(counts: &Counts) -> u64
         + u64::from(counts.n4)
 }
 
-// Whether the counts of each claim are of all draws.
+// Whether the counts of each claim are over all draws.
 fn counts_all(round: &DoneRound) -> bool
     ensures { result ≡ counts_all round.now }
 {
@@ -66,7 +66,7 @@ fn counts_all(round: &DoneRound) -> bool
         .all(|counts| draws_in(counts) == draws)
 }
 
-// Whether there is a risk for each claim, which is the printed risk of its counts.
+// Whether each claim has a risk, which is the printed risk of its counts.
 fn has_risks(cards: u32, gamma: u32, margins: &[u32], round: &DoneRound) -> bool
     requires settings { All (λ margin. IsSetting cards margin gamma) margins.now }
     requires counts { length round.now.counts ≡ length margins.now }
@@ -86,7 +86,7 @@ fn has_risks(cards: u32, gamma: u32, margins: &[u32], round: &DoneRound) -> bool
     true
 }
 
-// Whether the round has the counts of all its draws for each claim, and their printed risks.
+// Whether the round has, for each claim, the counts over all its draws and their printed risk.
 fn is_round(cards: u32, gamma: u32, margins: &[u32], round: &DoneRound) -> bool
     requires { All (λ margin. IsSetting cards margin gamma) margins.now }
     ensures { result ≡ is_round cards gamma margins.now round.now }
@@ -97,7 +97,7 @@ fn is_round(cards: u32, gamma: u32, margins: &[u32], round: &DoneRound) -> bool
         && has_risks(cards, gamma, margins, round)
 }
 
-/// Whether the draws of the rounds rise, and each round has the counts of all its draws and their printed risks.
+/// Returns whether the draws increase from round to round, and each round has the counts over all its draws and their printed risks.
 pub fn are_rounds(cards: u32, gamma: u32, margins: &[u32], rounds: &[DoneRound]) -> bool
     requires { All (λ margin. IsSetting cards margin gamma) margins.now }
     ensures { result ≡

@@ -10,7 +10,7 @@ use serde_json::{Value, json};
 use session_state::DoneRound;
 use std::alloc::{AllocError, Global};
 
-/// A digest, as a text of lower-case hexadecimal digits.
+/// Returns a digest as a text of lower-case hexadecimal digits.
 pub fn digest_value(alloc: Global, digest: &[u8; 32]) -> Result<Value, AllocError>
     ensures value { IfOk result (λ v. view v ≡ digest_value digest.now) }
     ensures form { IfOk result (λ _. IsDigest digest.now) }
@@ -18,7 +18,7 @@ pub fn digest_value(alloc: Global, digest: &[u8; 32]) -> Result<Value, AllocErro
     Ok(Value::String(hex::encode(alloc, digest.as_slice())?))
 }
 
-/// The numbers, as an array.
+/// Returns the numbers as an array.
 pub fn numbers_value(alloc: Global, numbers: &[u32]) -> Result<Value, AllocError>
     ensures { IfOk result (λ v. view v ≡ numbers_value numbers.now) }
 {
@@ -40,7 +40,7 @@ fn risks_value(alloc: Global, risks: &[u64]) -> Result<Value, AllocError>
     Ok(Value::Array(values))
 }
 
-// How many draws have each discrepancy, from 0 to 4, as an array of numbers.
+// The number of draws with each discrepancy, from 0 to 4, as an array of numbers.
 fn counts_value(alloc: Global, counts: &Counts) -> Result<Value, AllocError>
     ensures { IfOk result (λ v. view v ≡ counts_value counts.now) }
 {
@@ -68,7 +68,7 @@ fn round_value(alloc: Global, round: &DoneRound) -> Result<Value, AllocError>
     json!(in alloc; {"counts": counts, "draws": round.draws(), "risks": risks})
 }
 
-/// The rounds, as an array of objects.
+/// Returns the rounds as an array of objects.
 pub fn rounds_value(alloc: Global, rounds: &[DoneRound]) -> Result<Value, AllocError>
     ensures { IfOk result (λ v. view v ≡ array_of (map round_value rounds.now)) }
 {

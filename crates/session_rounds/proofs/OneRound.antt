@@ -1,4 +1,4 @@
--- A round refuses a file, or comes to one end.
+-- A round refuses a file, or has one end.
 use Rattle.std.proofs.Common.{ℕ, Bool, true, false, nat_le, List, Contains, Option, None, Some, IfSome, ok_or, Result, Ok, Err, sym, ap, subst, ◌∙◌, if◌then◌else◌}
 use Rattle.sha2.specs.Sha256.{sha256}
 use Rattle.irv_base.specs.Names.{Id, is_same}

@@ -76,13 +76,13 @@ module _ (name seen : List ℕ) (draws : ℕ) (session : Content) (values : List
   stopped (NoRecord card k) stop may refuses told = refused (NoRecord card k) stop may refuses told
   stopped (Changed round claim expected found) stop may refuses told = refused (Changed round claim expected found) stop may refuses told
 
--- a round that stops is told
+-- a round that stops is reported
 pub verdict_stopped : (judged : Result Content Verdict) (stop : Stop) → IsStopped judged stop →
     IsOneOrMemory (λ verdict. verdict ≡ verdict_of judged) (due_refusal stop)
 verdict_stopped judged stop (inl (verdict, is, due)) = inl (verdict, sym (ap verdict_of is), due)
 verdict_stopped judged stop (inr memory) = inr memory
 
--- a session that isn't one of its inputs is told
+-- a session that isn't one of its inputs is reported
 pub other_told : (name : List ℕ) (due : Outcome) → IsOrMemory (outcome (other_facts name)) due → EndsNow (ends (other_facts name)) due
 other_told name due (inl is) = inl (other_facts name, refl, is)
 other_told name due (inr memory) = inr memory

@@ -23,7 +23,7 @@ digests_text expected found = codes "S2 expected " ++ expected ++ codes " found 
 abbrev pub differs_text : List ℕ → List ℕ → List ℕ
 differs_text expected found = digests_text (encode_lower expected) (encode_lower found)
 
--- a file is refused if the digest of its bytes isn't the one that the session has
+-- a file is refused if its bytes don't have the digest that the session has
 abbrev pub other_digest : List ℕ → List ℕ → List ℕ → Option Verdict
 other_digest name expected bytes =
     if is_same expected (sha256 bytes) then None
@@ -33,7 +33,7 @@ other_digest name expected bytes =
 abbrev pub other_facts : List ℕ → Verdict
 other_facts name = Refused name (codes "S5")
 
--- ---- a session that doesn't go on
+-- ---- a session that can't continue
 
 abbrev pub had_text : ℕ → List ℕ
 had_text had = codes "S4 had " ++ decimal had

@@ -1,4 +1,5 @@
--- A round of a session, whatever its claims are: each file is judged, that it is the one of the session before what it says; then the session goes on.
+-- A round of a session, whatever its claims are. Each file is judged: first whether it is the session's, then what it says. Then the session
+-- continues.
 use Rattle.std.specs.Prelude.{◌≡◌, ◌<◌, ◌≤◌, ℕ, nat_le, Bool, true, false, if◌then◌else◌, List, length, map, Option, None, Some, ok_or, Result, Ok, Err}
 use Rattle.irv_base.specs.Names.{Id}
 use Rattle.irv_base.specs.declared.limits.TheConstants.{MOST_DRAWS}
@@ -30,7 +31,7 @@ use Rattle.session_rounds.specs.Refusals.{had_text, other_digest, other_facts, r
 abbrev pub session_in : List ℕ → List ℕ → Result Content Verdict
 session_in name bytes = ok_or (session_of bytes) (refused_session name)
 
--- a session that may go on to this many draws: its last round had fewer
+-- the session may continue to this many draws: its last round had fewer
 pub record MayGoOn (draws : ℕ) (session : Content) : Type 0 where
   pub fewer : last_draws session.session.rounds < draws
   pub most : draws ≤ MOST_DRAWS
@@ -41,7 +42,7 @@ had_as_many name draws rounds =
     if nat_le draws (last_draws rounds) then Some (Refused name (had_text (last_draws rounds)))
     else None
 
--- the session in the bytes of the file with this name, which goes on to this many draws
+-- the session in the bytes of the file with this name, which continues to this many draws
 abbrev pub session_to_go_on : List ℕ → ℕ → List ℕ → Result Content Verdict
 session_to_go_on name draws bytes = then_judged (session_in name bytes) (λ session.
     unless (had_as_many name draws session.session.rounds) (Ok session))
@@ -54,14 +55,14 @@ same_ballots name session bytes =
     unless (other_digest name session.digests.ballots bytes)
     (told (refused_ballots name) (ballots_of bytes (Some session.contest)))
 
--- the manifest of this name, in which each of the ballots, of a file with this name, has a card
+-- the manifest with this name, in which each ballot of the file with this name has a card
 abbrev pub same_manifest :
     List ℕ → List ℕ → Content → BallotFile → List ℕ → Result Batches Verdict
 same_manifest name manifest session ballots bytes =
     unless (other_digest manifest session.digests.manifest bytes)
     (cards_for name ballots manifest bytes)
 
--- both are read, and the session goes on by what they say
+-- both have been read, and the session continues by what they say
 module _ (ballots manifest : List ℕ) (session : Content)
     (next : BallotFile → Batches → Script) where
   abbrev pub with_manifest : BallotFile → Script
@@ -84,7 +85,7 @@ abbrev pub unseen : Content → Compared → ℕ → Option AdvanceFault
 unseen session compared draws =
     without_record session.seed (length compared.recorded) compared.entries draws
 
--- the first earlier round whose counts come out otherwise, of claims with these values
+-- the first earlier round whose counts come out differently, for claims with these values
 abbrev pub changed :
     Content → List (List ℕ → ℕ) → Compared → ℕ → Option AdvanceFault
 changed session values compared draws =
@@ -93,7 +94,7 @@ changed session values compared draws =
     (drawn_cards session.seed cards draws)) 1
     session.session.rounds
 
--- ---- what it comes to
+-- ---- how a round ends
 
 -- 0 if it is signed off
 abbrev pub kind_of : Session → AnswerKind
@@ -107,10 +108,10 @@ abbrev pub verdict_of : Result Content Verdict → Verdict
 verdict_of (Ok next) = session_answer next
 verdict_of (Err verdict) = verdict
 
--- ---- the session that goes on to this many draws; its file and the seen file have these names
+-- ---- the session that continues to this many draws; its file and the seen file have these names
 
 module _ (name seen : List ℕ) (draws : ℕ) where
-  -- each drawn card has to be seen, and then the counts of earlier rounds come out the same
+  -- each drawn card must have been seen, and then the counts of earlier rounds must come out the same
   abbrev pub next_session :
       Content → List (List ℕ → ℕ) → Compared → Result Content Verdict
   next_session session values compared =
@@ -122,14 +123,14 @@ module _ (name seen : List ℕ) (draws : ℕ) where
   GoesOn session values compared verdict =
       verdict ≡ verdict_of (next_session session values compared)
 
-  -- what is seen of the cards is read, by the ids of the candidates, and the session goes on
+  -- the command reads what is seen of the cards, by the ids of the candidates, and the session continues
   abbrev pub with_seen :
       Content → List (List ℕ → ℕ) → Batches → List Recorded → List Id → Script
   with_seen session values batches recorded candidates = Read seen (λ bytes.
       go_on (told (refused_seen seen) (seen_of batches candidates bytes)) (λ entries.
       Ends (GoesOn session values (record { recorded = recorded; entries = entries }))))
 
-  -- a round, or S5 if the session isn't one of its inputs
+  -- a round, or S5 if the session isn't one of these inputs
   abbrev pub one_round :
       Bool → Content → List (List ℕ → ℕ) → Batches → List Recorded → List Id → Script
   one_round true session values batches recorded candidates =

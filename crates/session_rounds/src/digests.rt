@@ -19,7 +19,7 @@ pub fn digest_of(bytes: &[u8]) -> [u8; 32]
     Sha256::digest(bytes)
 }
 
-/// The bytes of the file have the digest that is expected.
+/// Checks that the bytes of the file have the expected digest.
 pub fn same_digest(
     alloc: Global,
     file: &FileName,

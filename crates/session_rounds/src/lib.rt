@@ -1,4 +1,4 @@
-//! What the commands on sessions share, whatever the claims are: which files are those of a session, and one round more of it.
+//! What the commands on sessions share, whatever the claims are: which files are those of a session, and one more round of it.
 #![tactic(auto)]
 
 mod digests;

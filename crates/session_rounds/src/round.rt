@@ -24,18 +24,18 @@ use session_file::print_session;
 use session_state::{Session, signed_off};
 use std::alloc::Global;
 
-/// What a round is asked for.
+/// The request for a round.
 #[derive(Clone, Copy)]
 pub struct RoundTask<'t> {
     /// The session file.
     pub session: &'t FileName,
     /// The file of seen cards.
     pub seen: &'t FileName,
-    /// How many draws there are then, counted from the first of the audit.
+    /// The number of draws after this round, counted from the first draw of the audit.
     pub draws: u32,
 }
 
-/// What a round goes by: the cards, and claims about a contest.
+/// The inputs of a round: the cards, and claims about a contest.
 #[derive(Drop)]
 pub struct RoundBasis<'i, T> {
     /// The cards of the ballots, with what is recorded of each.
@@ -46,7 +46,7 @@ pub struct RoundBasis<'i, T> {
     pub candidates: &'i [Name],
 }
 
-// Why a session doesn't go on.
+// The refusal that says why a session can't continue.
 fn refuse_round(alloc: Global, task: &RoundTask, fault: &AdvanceFault) -> Refusal
     ensures { IsTold (refused_round task.now.session.now task.now.seen.now fault.now)
         (due_refusal result) }
@@ -102,7 +102,7 @@ fn session_answer(alloc: Global, session: &Session) -> Result<Answer, Refusal>
     })
 }
 
-// The session with a round more, by what is seen of the cards.
+// The session with one more round, by what is seen of the cards.
 fn go_on<T: Claims>(
     alloc: Global,
     task: &RoundTask,
@@ -122,7 +122,7 @@ fn go_on<T: Claims>(
     session_answer(alloc, &session)
 }
 
-// What is seen of the cards is read, by the ids of the candidates, and the session goes on.
+// Reads what is seen of the cards, by the ids of the candidates, and continues the session.
 fn with_seen<D: Desk, T: Claims>(
     alloc: Global,
     desk: &mut D,

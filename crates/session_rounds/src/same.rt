@@ -1,4 +1,4 @@
-// The files of a session: each has the digest that the session has of it, before it is judged.
+// The files of a session. Each is judged only if it has the digest that the session has for it.
 ghost use Rattle.std.specs.Prelude.{◌≡◌, Ok, None, IfOk, IfErr};
 ghost use Rattle.manifest.specs.Linked.{first_without_card, linked_of};
 ghost use Rattle.input_files.specs.Judged.{IsJudged, IsStopped};

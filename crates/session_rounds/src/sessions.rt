@@ -25,7 +25,7 @@ pub fn session_in(alloc: Global, file: &FileName, bytes: &[u8]) -> Result<Sessio
     }
 }
 
-/// The session in the bytes of the file with this name, whose last round had fewer draws than are asked for.
+/// The session in the bytes of the file with this name, whose last round had fewer draws than are requested.
 pub fn session_to_go_on(
     alloc: Global,
     file: &FileName,

@@ -1,4 +1,4 @@
-// What is wrong with a file of an audit, in words.
+// The words for what is wrong with a file of an audit.
 ghost use Rattle.std.specs.Prelude.{◌≡◌, IfOk, string_bytes};
 ghost use Rattle.session_rounds.specs.Refusals.{changed_text, counted_text, differs_text, digests_text, had_text};
 
@@ -7,7 +7,7 @@ use km_risk::Counts;
 use report::counts_text;
 use std::alloc::{AllocError, Global};
 
-/// A file has another digest than was expected.
+/// The text for a file that doesn't have the expected digest.
 pub(crate) fn differs_text(
     alloc: Global,
     expected: &[u8; 32],
@@ -26,14 +26,14 @@ fn digests_text(alloc: Global, expected: &str, found: &str) -> Result<String, Al
     format!(in alloc; "S2 expected {expected} found {found}")
 }
 
-/// A session had this many draws.
+/// The text for a session that had this many draws.
 pub(crate) fn had_text(alloc: Global, had: u32) -> Result<String, AllocError>
     ensures { IfOk result (λ text. string_bytes text ≡ had_text had) }
 {
     format!(in alloc; "S4 had {had}")
 }
 
-/// The counts of a claim in a round aren't those that the session has.
+/// The text for a round in which the counts of a claim aren't those that the session has.
 pub(crate) fn changed_text(
     alloc: Global,
     round: u32,

@@ -1,4 +1,4 @@
--- A session stays sound with a round more.
+-- A session stays sound when a round is added.
 use Rattle.std.proofs.Common.{ℕ, ◌<◌, ◌≤◌, List, [], ◌∷◌, ◌++◌, All, length, arith}
 use Rattle.std.proofs.lemmas.List.Elements.{All-nil, All-cons, All-append, All-map, All-weaker}
 use Rattle.std.proofs.lemmas.List.Quantifiers.{all_pairs_push}
@@ -9,7 +9,7 @@ use Rattle.session_state.specs.declared.digests.Digests.{Digests}
 use Rattle.session_state.specs.Content.{Content, IsSound, begun_with, with_round}
 use Rattle.session_state.specs.Sessions.{Round, Session, IsRound}
 
--- what a round is asks nothing of the other rounds
+-- what makes a round a round doesn't depend on the other rounds
 moved : (session : Session) (rounds : List Round) (round : Round) → IsRound session round → IsRound (record session { rounds = rounds }) round
 moved session rounds round is = record { some = is.some; each = is.each; all_draws = is.all_draws; printed = is.printed }
 

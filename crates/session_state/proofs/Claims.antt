@@ -1,4 +1,4 @@
--- Values with their margins, one after the other.
+-- Values with their margins, in order.
 use Rattle.std.proofs.Common.{◌≡◌, ℕ, List, [], ◌∷◌, All, length, map, refl, ap, arith}
 use Rattle.std.proofs.lemmas.List.Elements.{All-nil, All-cons, All-head, All-tail}
 use Rattle.assertions.specs.declared.assertion.Claim.{Claim}
@@ -9,7 +9,7 @@ use Rattle.assorters.specs.Cards.{IsAssorter}
 use Rattle.session_state.specs.Claims.{audited, audited_by, audited_claim, values_of}
 use Rattle.session_state.specs.Draws.{Audited}
 
--- those of a file are its claims
+-- the values and margins of a file are its claims
 pub audited-file : (file : FileContent) → audited_by (values_of file) (margins_of file) ≡ audited file
 audited-file file = go file.claims where
   go : (claims : List Claim) → audited_by (map (λ claim. assorter_value claim.assertion) claims) (map (λ claim. claim.margin) claims) ≡ map audited_claim claims

@@ -1,4 +1,4 @@
--- Different lists that pass a test are at most as many as all that pass it.
+-- There are at most as many different lists that pass a test as there are lists in total that pass it.
 use Rattle.std.proofs.Common.{◌≡◌, ◌≢◌, suc, ◌≤◌, Bool, true, List, [], ◌∷◌, length, filter, count_by, AllPairs, sym, arith}
 use Rattle.std.proofs.lemmas.List.Sums.{length-filter}
 use Rattle.irv_base.proofs.Distinct.{Distinct, none, more, distinct-le}

@@ -1,4 +1,4 @@
--- Where cards go missing, the discrepancies are no larger: so it is enough to count over the actual rankings.
+-- If cards are missing, the discrepancies are no larger, so it is enough to count over the actual rankings.
 use Rattle.std.proofs.Common.{◌≡◌, ℕ, zero, suc, ◌-◌, ◌≤◌, List, [], ◌∷◌, map, get_or, sum_by, refl, arith}
 use Rattle.std.proofs.lemmas.List.Sums.{sum_by-cons}
 use Rattle.manifest.specs.declared.recorded.Recorded.{Recorded}

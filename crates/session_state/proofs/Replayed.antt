@@ -1,4 +1,4 @@
--- A session is that of some draws exactly where it keeps what a session keeps, and its counts are those of the draws.
+-- A session is that of some draws exactly if it keeps the invariants of a session and its counts are those of the draws.
 use Rattle.std.proofs.Common.{◌≡◌, ℕ, ◌≤◌, List, [], ◌∷◌, map, length, take, get_or, All, refl, sym, ◌∙◌, ap, subst, arith}
 use Rattle.std.proofs.lemmas.List.{length-map, length-take-le, get_or-map}
 use Rattle.std.proofs.lemmas.List.Elements.{All-head, All-tail, All-map}
@@ -65,7 +65,7 @@ module _ (limit gamma : ℕ) (claims : List Audited) (recorded : List Recorded) 
         (λ k e below. refl);
   }
 
-  -- ---- and back
+  -- ---- the converse
   same_rounds : (rounds : List Round) →
       All (λ round. round.counts ≡ map (λ claim. counts_after claim.value recorded seen draws round.draws) claims) rounds →
       All (λ round. round.risks ≡ risks_of (length recorded) gamma (map (λ claim. claim.margin) claims) round.counts) rounds →

@@ -1,4 +1,4 @@
--- Where a claim isn't true of the actual rankings, the audit confirms it on few sequences.
+-- If a claim isn't true of the actual rankings, the audit confirms it on few sequences.
 use Rattle.std.proofs.Common.{◌≡◌, ℕ, ◌+◌, ◌*◌, ◌^◌, ◌<◌, ◌≤◌, Bool, true, cond, List, map, length, take, get_or, sum, sum_by, count_by, All, Contains, pos, ◌-ℤ◌, ◌∙◌, arith}
 use Rattle.std.specs.List.{range_with_len}
 use Rattle.std.proofs.lemmas.Int.{ints}

@@ -1,4 +1,4 @@
--- What it says of the draws that a session is signed off.
+-- What a signed-off session says about the draws.
 use Rattle.std.proofs.Common.{◌≡◌, ◌↔◌, ℕ, zero, suc, ◌+◌, ◌<◌, ◌≤◌, Bool, true, nat_le, Some, List, [], ◌∷◌, map, length, take, slice_get, option_map, refl, sym, ◌∙◌, ap, subst, arith}
 use Rattle.std.specs.List.{list_all, range_with_len}
 use Rattle.std.proofs.lemmas.Bool.{true≢false, and_parts, and_from, le-leb}
@@ -39,7 +39,7 @@ module _ (limit gamma : ℕ) (claims : List Audited) (recorded : List Recorded) 
   abbrev pub is_met_after : ℕ → Audited → Bool
   is_met_after k claim = is_printed_within (length recorded) claim.margin gamma limit (map (discrepancy_of claim.value recorded seen) (take k draws))
 
-  -- so the round says
+  -- the round says so
   meets-is : (end j : ℕ) (claim : Audited) → slice_get claims j ≡ Some claim →
       meets limit j (round_to gamma claims recorded seen draws end) ≡ is_met_after end claim
   meets-is end j claim at =
@@ -62,7 +62,7 @@ module _ (limit gamma : ℕ) (claims : List Audited) (recorded : List Recorded) 
       let (end, among, same) = from_map (round_to gamma claims recorded seen draws) round ends member in
       (end, among, sym (meets-is end j claim at) ∙ subst (λ r. meets limit j r ≡ true) (sym same) met)
 
-  -- where each claim met it at the end of some round, the session is signed off
+  -- if each claim met the limit at the end of some round, the session is signed off
   signed_from : (ends : List ℕ) → 1 ≤ length ends →
       ((j : ℕ) (claim : Audited) → j < length claims → slice_get claims j ≡ Some claim → (end : ℕ) × Member end ends × (is_met_after end claim ≡ true)) →
       is_signed_off (session_to limit gamma claims recorded seen draws ends) ≡ true
@@ -79,7 +79,7 @@ module _ (limit gamma : ℕ) (claims : List Audited) (recorded : List Recorded) 
       (list_any-member (meets limit j) {x = round_to gamma claims recorded seen draws end} {xs = session.rounds}
       (member-map (round_to gamma claims recorded seen draws) among) (meets-is end j claim at ∙ met))))
 
-  -- there is a round, and so there is a draw
+  -- there is a round, so there is a draw
   some_draw : (ends : List ℕ) → AreRoundEnds (length draws) ends → is_signed_off (session_to limit gamma claims recorded seen draws ends) ≡ true →
       1 ≤ length draws
   some_draw [] are signed = absurd (true≢false (sym signed))

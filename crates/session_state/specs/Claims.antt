@@ -1,4 +1,4 @@
--- What is audited: functions of rankings with their margins, as those of an assertion file.
+-- What is audited: functions of rankings with their margins, as in an assertion file.
 use Rattle.std.specs.Prelude.{ℕ, List, map, zip}
 use Rattle.assertions.specs.declared.assertion.Claim.{Claim}
 use Rattle.assertions.specs.Assorter.{assorter_value}
@@ -10,9 +10,9 @@ abbrev pub audited_by : List (List ℕ → ℕ) → List ℕ → List Audited
 audited_by values margins =
     map (λ claim. record { value = claim.0; margin = claim.1 }) (zip values margins)
 
--- ---- of an assertion file
+-- ---- the claims of an assertion file
 
--- what a ranking counts as for each of its claims
+-- the value of a ranking for each of its claims
 abbrev pub values_of : FileContent → List (List ℕ → ℕ)
 values_of file = map (λ claim. assorter_value claim.assertion) file.claims
 

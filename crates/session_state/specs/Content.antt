@@ -1,4 +1,4 @@
--- What a session says: of which contest, seed and files, and its rounds.
+-- What a session says: its contest, seed, files and rounds.
 use Rattle.std.specs.Prelude.{ℕ, ◌≤◌, List, [], ◌∷◌, ◌++◌, All}
 use Rattle.irv_base.specs.Names.{Id}
 use Rattle.irv_base.specs.declared.limits.TheConstants.{GREATEST_GAMMA, GREATEST_LIMIT, MOST_CARDS, MOST_DRAWS}
@@ -12,7 +12,7 @@ pub record Content : Type 0 where
   pub digests : Digests
   pub session : Session
 
--- its numbers are within the limits of an audit
+-- the session's numbers are within the limits of an audit
 pub record IsWithinLimits (session : Session) : Type 0 where
   pub most_cards : session.cards ≤ MOST_CARDS
   pub some_limit : 1 ≤ session.limit
@@ -25,9 +25,9 @@ pub record IsSound (content : Content) : Type 0 where
   pub limits : IsWithinLimits content.session
   pub session : IsSession content.session
 
--- ---- how it begins and goes on
+-- ---- how it begins and continues
 
--- with these margins, and no rounds
+-- the session with these margins and no rounds
 abbrev pub begun_with : Id → ℕ → List ℕ → List ℕ → ℕ → ℕ → Digests → Content
 begun_with contest cards margins seed limit gamma digests = record {
   contest = contest;
@@ -37,7 +37,7 @@ begun_with contest cards margins seed limit gamma digests = record {
       record { cards = cards; margins = margins; limit = limit; gamma = gamma; rounds = [] };
 }
 
--- with those of an assertion file
+-- the same with the margins of an assertion file
 abbrev pub begun : Id → ℕ → FileContent → List ℕ → ℕ → ℕ → Digests → Content
 begun contest cards file seed limit gamma digests =
     begun_with contest cards (margins_of file) seed limit gamma digests

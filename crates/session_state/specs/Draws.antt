@@ -11,7 +11,7 @@ use Rattle.km_risk.specs.Counts.{counts_of}
 use Rattle.km_risk.specs.Printed.{printed_risk}
 use Rattle.session_state.specs.Sessions.{Round, Session, is_signed_off}
 
--- what is seen of each of this many cards, if only some were looked at: each other card counts as missing
+-- what is seen on each of this many cards if only some were looked at; every other card counts as missing
 abbrev pub seen_of_all : (ℕ → Option Seen) → ℕ → List Seen
 seen_of_all looked_at cards =
     map (λ card. unwrap_or (looked_at card) Missing) (range_with_len 1 cards)
@@ -21,12 +21,12 @@ abbrev pub counts_after : (List ℕ → ℕ) → List Recorded → List Seen →
 counts_after value recorded seen draws k =
     counts_of (map (discrepancy_of value recorded seen) (take k draws))
 
--- what is audited of a claim: a function of rankings, and its margin in votes
+-- what is audited for a claim: a function of rankings, and its margin in votes
 pub record Audited : Type 0 where
   pub value : List ℕ → ℕ
   pub margin : ℕ
 
--- the last draws of the rounds: they rise, and are among this many draws
+-- the numbers of draws at the ends of the rounds: they increase, and none is above this number
 pub record AreRoundEnds (most : ℕ) (ends : List ℕ) : Type 0 where
   pub rising : AllPairs ◌<◌ ends
   pub some : All (λ end. 1 ≤ end) ends
@@ -49,7 +49,7 @@ module _ (gamma : ℕ) (claims : List Audited) (recorded : List Recorded) (seen 
 
 module _ (limit gamma : ℕ) (claims : List Audited) (recorded : List Recorded) (seen : List Seen)
     (draws : List ℕ) where
-  -- with a round to each of these ends
+  -- the session with a round up to each of these ends
   abbrev pub session_to : List ℕ → Session
   session_to ends = record {
     cards = length recorded;
@@ -70,7 +70,7 @@ module _ (limit gamma : ℕ) (claims : List Audited) (recorded : List Recorded) 
         ≡ map (λ claim. counts_after claim.value recorded seen draws round.draws) claims)
         session.rounds
 
-  -- the session has rounds of these draws; their ends are free
+  -- the session has rounds of these draws; the rounds may end anywhere
   pub record IsSessionOf (session : Session) : Type 0 where
     pub ends : List ℕ
     pub are : AreRoundEnds (length draws) ends

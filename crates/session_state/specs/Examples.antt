@@ -16,11 +16,11 @@ claim_of_one = record { value = lead; margin = 1 }
 abbrev pub lead_of_one : List Audited
 lead_of_one = claim_of_one ∷ []
 
--- three cards for 0, 0 and neither: a lead of two
+-- three cards for 0, 0 and neither, which is a lead of two
 abbrev pub three_lead : List Recorded
 three_lead = Ranked (0 ∷ []) ∷ Ranked (0 ∷ []) ∷ Ranked [] ∷ []
 
--- the third is seen to be for 1
+-- the third card is seen to be for 1
 abbrev pub one_worse : List Seen
 one_worse = Found (0 ∷ []) ∷ Found (0 ∷ []) ∷ Found (1 ∷ []) ∷ []
 
@@ -30,6 +30,6 @@ claim_of_two = record { value = lead; margin = 2 }
 abbrev pub lead_of_three : List Audited
 lead_of_three = claim_of_two ∷ []
 
--- the same values with a margin of 1: a smaller claim of the same cards
+-- the same values with a margin of 1, which is a smaller claim about the same cards
 abbrev pub two_leads : List Audited
 two_leads = claim_of_two ∷ claim_of_one ∷ []

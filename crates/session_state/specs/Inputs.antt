@@ -15,20 +15,20 @@ pub record AreSameDigests (session files : Digests) : Type 0 where
   pub manifest : session.manifest ≡ files.manifest
   pub assertions : session.assertions ≡ files.assertions
 
--- of the pairs, which are counted from this number, the first whose two lists differ is this one
+-- this is the first pair whose two lists differ, if the pairs are counted from this number
 abbrev pub IsFirstDifferent : ℕ → List (List ℕ × List ℕ) → ℕ → List ℕ → List ℕ → Type 0
 IsFirstDifferent k [] which expected found = ⊥
 IsFirstDifferent k (pair ∷ pairs) which expected found =
     ((pair.0 ≢ pair.1) × (which ≡ k) × (expected ≡ pair.0) × (found ≡ pair.1))
     ⊎ ((pair.0 ≡ pair.1) × IsFirstDifferent (k + 1) pairs which expected found)
 
--- the digest of each file in the session, and that of the file
+-- the digest of each file in the session, paired with the digest of the file itself
 abbrev pub digest_pairs : Digests → Digests → List (List ℕ × List ℕ)
 digest_pairs session files =
     (session.ballots, files.ballots) ∷ (session.manifest, files.manifest)
     ∷ (session.assertions, files.assertions) ∷ []
 
--- it names the first digest that differs
+-- the fault names the first digest that differs
 abbrev pub IsOtherDigest : Digests → Digests → InputFault → Type 0
 IsOtherDigest session files (Differs which expected found) =
     IsFirstDifferent 1 (digest_pairs session files) which expected found
@@ -55,14 +55,14 @@ module _ (content : Content) (digests : Digests) (cards : ℕ) (contest : Id) (m
     pub digests_are : AreSameDigests content.digests digests
     pub facts : HasFacts content cards contest margins
 
-  -- the first digest that differs, or otherwise a fact that does
+  -- the first digest that differs, or otherwise a fact that differs
   abbrev pub IsFault : InputFault → Type 0
   IsFault (Differs which expected found) =
       IsOtherDigest content.digests digests (Differs which expected found)
   IsFault Facts =
       AreSameDigests content.digests digests × (HasFacts content cards contest margins → ⊥)
 
--- with the contest and the margins of an assertion file
+-- the same with the contest and margins of an assertion file
 
 abbrev pub IsOfInputs : Content → Digests → ℕ → FileContent → Type 0
 IsOfInputs content digests cards file =

@@ -12,7 +12,7 @@ use Rattle.session_state.specs.Sessions.{Session, IsSession, is_signed_off}
 use Rattle.session_state.specs.Draws.{Audited, IsSessionOf, Agrees, IsSignedOffOn, is_signed_off_on, seen_of_all}
 use Rattle.session_state.specs.Readings.{IsReading, AreReadings}
 
--- a session of draws keeps what a session keeps, and its counts are those of the draws
+-- a session of draws keeps the invariants of a session, and its counts are those of the draws
 abbrev pub SessionLaw : Type 0
 SessionLaw =
     (limit gamma : ℕ) (claims : List Audited) (recorded : List Recorded) (seen : List Seen)
@@ -22,7 +22,7 @@ SessionLaw =
     (IsSessionOf limit gamma claims recorded seen draws session
     ↔ (IsSession session × Agrees limit gamma claims recorded seen draws session))
 
--- a session that is signed off has confirmed each claim: after some of the draws its exact risk was within the limit
+-- a session that is signed off has confirmed each claim: after some of the draws, its exact risk was within the limit
 abbrev pub SignedOffLaw : Type 0
 SignedOffLaw =
     (limit gamma : ℕ) (claims : List Audited) (recorded : List Recorded) (seen : List Seen)
@@ -37,7 +37,7 @@ SignedOffLaw =
     (map (discrepancy_of claim.value recorded seen) (take k draws))))
     claims
 
--- wherever its rounds end, no session of draws is signed off if the one with a round after each draw isn't
+-- wherever its rounds end, no session of draws is signed off if the session with a round after each draw isn't
 abbrev pub EveryDrawLaw : Type 0
 EveryDrawLaw =
     (limit gamma : ℕ) (claims : List Audited) (recorded : List Recorded) (seen : List Seen)

@@ -1,5 +1,5 @@
--- The risk limit of any claims, each a function of rankings and a margin: `ValuesRiskLimit`, at the end, is what is promised; the
--- records before it are the premises. It doesn't say what the claims are about.
+-- The risk limit of any claims, each a function of rankings and a margin. The promise is `ValuesRiskLimit`, at the end; the records before it
+-- are the premises. It doesn't say what the claims are about.
 use Rattle.std.specs.Prelude.{◌≡◌, ◌≢◌, ℕ, ◌*◌, ◌^◌, ◌<◌, ◌≤◌, List, length, sum_by, count_by, All, AllPairs, Contains, IsTrue, pos}
 use Rattle.std.specs.List.{range_with_len}
 use Rattle.manifest.specs.declared.recorded.Recorded.{Recorded}
@@ -32,8 +32,8 @@ IsUntrue claim actual = sum_by claim.value actual ≤ length actual
 
 module _ (limit gamma : ℕ) (claims : List Audited) (recorded : List Recorded)
     (actual : List (List ℕ)) where
-  -- the audit can be signed off on these draws: some cards may be missing, and the others are read as they are; the rounds may end
-  -- anywhere, even after a look at the draws; and the session of the draws is signed off at its last round
+  -- the audit can be signed off on these draws: some cards may be missing, and the others are read as they are; the rounds may end anywhere,
+  -- even after a look at the draws; and the session of the draws is signed off at its last round
   pub record MayBeSignedOff (draws : List ℕ) : Type 0 where
     pub seen : List Seen
     pub readings : AreReadings actual seen
@@ -41,7 +41,7 @@ module _ (limit gamma : ℕ) (claims : List Audited) (recorded : List Recorded)
     pub drawn : IsSessionOf limit gamma claims recorded seen draws session
     pub signed_off : IsTrue (is_signed_off session)
 
-  -- a session may be signed off on each of these sequences of n cards, no two of which are the same
+  -- a session may be signed off on each of these sequences of n cards, and no two of them are the same
   pub record AreSignedOff (n : ℕ) (signed : List (List ℕ)) : Type 0 where
     pub drawn : All (IsSequence (length recorded) n) signed
     pub differ : AllPairs ◌≢◌ signed
@@ -49,7 +49,7 @@ module _ (limit gamma : ℕ) (claims : List Audited) (recorded : List Recorded)
 
 -- ---- what is promised
 
--- if a claim isn't true, they are at most limit millionths of all sequences
+-- if a claim isn't true, these are at most limit millionths of all sequences
 abbrev pub ValuesRiskLimit : Type 0
 ValuesRiskLimit =
     (limit gamma n : ℕ) (claims : List Audited) (recorded : List Recorded)
@@ -59,7 +59,7 @@ ValuesRiskLimit =
     AreSignedOff limit gamma claims recorded actual n signed →
     length signed * millionths_in_one ≤ limit * length recorded ^ n
 
--- the same as a count of the listed sequences, if what is read of the cards is fixed before anything is drawn
+-- the same as a count of the listed sequences, if what is read on the cards is fixed before anything is drawn
 abbrev pub CountedValuesRiskLimit : Type 0
 CountedValuesRiskLimit =
     (limit gamma n : ℕ) (claims : List Audited) (recorded : List Recorded)

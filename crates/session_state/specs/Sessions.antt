@@ -1,4 +1,4 @@
--- The session of an audit: rounds of draws, each with the counts and the risks of all claims; and when it is signed off.
+-- The session of an audit: rounds of draws, each with the counts and risks of all claims; and when it is signed off.
 use Rattle.std.specs.Prelude.{◌≡◌, ℕ, ◌*◌, ◌<◌, ◌≤◌, Bool, false, ◌&&◌, nat_le, Option, Some, None, List, map, length, take, zip, slice_get, All, AllPairs}
 use Rattle.std.specs.List.{list_all, list_any, range_with_len}
 use Rattle.km_risk.specs.declared.limits.TheConstants.{MILLIONTH}
@@ -6,7 +6,7 @@ use Rattle.km_risk.specs.declared.draws.Counts.{Counts}
 use Rattle.km_risk.specs.Counts.{draws_in}
 use Rattle.km_risk.specs.Printed.{printed_risk}
 
--- the draws from the first to the end of the round, and for each claim their counts and the printed risk
+-- the number of draws from the first to the end of the round, and for each claim the counts over these draws and the printed risk
 pub record Round : Type 0 where
   pub draws : ℕ
   pub counts : List Counts
@@ -31,7 +31,7 @@ abbrev pub meets : ℕ → ℕ → Round → Bool
 meets limit claim round = is_at_most limit (slice_get round.risks claim)
 
 module _ (session : Session) where
-  -- it was so at the end of this round, counted from 1, or of an earlier one
+  -- this was so at the end of this round, counted from 1, or of an earlier one
   abbrev pub is_confirmed_at : ℕ → ℕ → Bool
   is_confirmed_at round claim = list_any (meets session.limit claim) (take round session.rounds)
 
@@ -42,7 +42,7 @@ module _ (session : Session) where
       && list_all (is_confirmed_at (length session.rounds))
       (range_with_len 0 (length session.margins))
 
--- ---- what it keeps of itself
+-- ---- the invariants of a session
 
 -- the risk of each claim, from its counts
 abbrev pub risks_of : ℕ → ℕ → List ℕ → List Counts → List ℕ
@@ -55,7 +55,7 @@ pub record IsRound (session : Session) (round : Round) : Type 0 where
   pub all_draws : All (λ counts. draws_in counts ≡ round.draws) round.counts
   pub printed : round.risks ≡ risks_of session.cards session.gamma session.margins round.counts
 
--- the draws of its rounds rise, and each has the counts of as many draws and their printed risks
+-- the draws of its rounds increase, and each round has the counts of as many draws and their printed risks
 pub record IsSession (session : Session) : Type 0 where
   pub some : 1 ≤ length session.margins
   pub margins : All (λ margin. (1 ≤ margin) × (margin ≤ session.cards)) session.margins

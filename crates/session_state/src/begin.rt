@@ -11,7 +11,7 @@ use irv_base::{Memory, Name};
 use sampler::Seed;
 use std::alloc::Global;
 
-/// The margin of each claim.
+/// Returns the margin of each claim.
 pub fn margins_of(alloc: Global, claims: &[Claim]) -> Result<Vec<u32>, Memory>
     ensures { IfOk result (λ margins. margins.items ≡ map (λ claim. claim.margin) claims.now) }
 {
@@ -19,7 +19,7 @@ pub fn margins_of(alloc: Global, claims: &[Claim]) -> Result<Vec<u32>, Memory>
     Ok(margins)
 }
 
-/// The session of an audit of claims with these margins, before its first round.
+/// Makes the session of an audit of claims with these margins, before its first round.
 pub fn begin_plain(
     alloc: Global,
     contest: Name,
@@ -52,7 +52,7 @@ pub fn begin_plain(
     ))
 }
 
-/// The session of an audit by an assertion file, before its first round.
+/// Makes the session of an audit by an assertion file, before its first round.
 pub fn begin_session(
     alloc: Global,
     contest: Name,

@@ -3,10 +3,10 @@
 /// The SHA-256 digests of the files of an audit.
 #[derive(Clone, Copy, Debug, PartialEq, Eq)]
 pub struct Digests {
-    /// That of the ballot file.
+    /// The digest of the ballot file.
     pub ballots: [u8; 32],
-    /// That of the manifest.
+    /// The digest of the manifest.
     pub manifest: [u8; 32],
-    /// That of the assertion file.
+    /// The digest of the assertion file.
     pub assertions: [u8; 32],
 }

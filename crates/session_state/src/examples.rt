@@ -5,7 +5,7 @@ ghost use Rattle.session_state.specs.Sessions.{is_signed_off};
 ghost use Rattle.session_state.specs.Draws.{risk_after, session_to};
 ghost use Rattle.session_state.specs.Examples as examples;
 
-/// One card that is drawn again and again: four draws aren't enough for a limit of 0.05, and five are.
+/// One card is drawn again and again. Four draws aren't enough for a limit of 0.05, and five are.
 pub fn one_card()
     ensures four { is_signed_off (session_to 50000 100 examples.lead_of_one examples.one_record
         (Found (0 ∷ []) ∷ []) (1 ∷ 1 ∷ 1 ∷ 1 ∷ 1 ∷ []) (4 ∷ [])) ≡ false }
@@ -15,8 +15,8 @@ pub fn one_card()
         (Missing ∷ []) (1 ∷ 1 ∷ 1 ∷ 1 ∷ 1 ∷ []) (4 ∷ 5 ∷ [])) ≡ false }
 {}
 
-/// Three cards, of which one has another ranking than its record. The first draw has a risk of exactly 0.8. At a limit of
-/// that, the claim is confirmed in the round of one draw, and stays so though the second draw takes its risk above the limit.
+/// Of three cards, one has a ranking that differs from its record. The first draw has a risk of exactly 0.8. At a limit of 0.8, the claim is
+/// confirmed in the round of one draw, and stays confirmed although the second draw takes its risk above the limit.
 pub fn confirmed_earlier()
     ensures exact { risk_after 500 examples.lead_of_three examples.three_lead examples.one_worse
         (1 ∷ 3 ∷ []) 1 examples.claim_of_two ≡ 800000000000000000 }
@@ -32,7 +32,7 @@ pub fn confirmed_earlier()
         examples.three_lead examples.one_worse (1 ∷ 3 ∷ []) []) ≡ false }
 {}
 
-/// Two claims, of which the first round confirms the one, and the second round the other: then all are.
+/// There are two claims. The first round confirms the first claim, and the second round the second claim. Then all are confirmed.
 pub fn two_claims()
     ensures first { is_signed_off (session_to 800000 500 examples.two_leads
         examples.three_lead examples.one_worse (1 ∷ 2 ∷ 1 ∷ []) (1 ∷ [])) ≡ false }

@@ -17,7 +17,7 @@ use std::fmt;
 /// How a session differs from the inputs.
 #[derive(Clone, Copy, Debug, PartialEq, Eq)]
 pub enum InputFault {
-    /// A digest of the session isn't that of the file: of the ballots (1), the manifest (2) or the assertions (3).
+    /// A digest of the session isn't the file's. The file is the ballots (1), the manifest (2) or the assertions (3).
     Differs {
         which: u8,
         expected: [u8; 32],
@@ -40,7 +40,7 @@ impl fmt::Display for InputFault {
 
 impl Error for InputFault {}
 
-/// The first digest of the session that isn't that of the file, in the order ballots, manifest, assertions.
+/// Returns the first digest of the session that isn't the file's, in the order ballots, manifest, assertions.
 pub fn other_digest(s: &Session, d: &Digests) -> Option<InputFault>
     ensures { MatchOption result (AreSameDigests s.now.digests d.now)
         (IsOtherDigest s.now.digests d.now) }
@@ -70,7 +70,7 @@ pub fn other_digest(s: &Session, d: &Digests) -> Option<InputFault>
     None
 }
 
-// The margins are those of the claims.
+// Whether the margins are those of the claims.
 fn are_margins(margins: &[u32], claims: &[Claim]) -> bool
     ensures same { OnTrue result (margins.now ≡ map (λ claim. claim.margin) claims.now) }
     ensures differ { OnFalse result (margins.now ≢ map (λ claim. claim.margin) claims.now) }
@@ -86,28 +86,28 @@ fn are_margins(margins: &[u32], claims: &[Claim]) -> bool
     true
 }
 
-// The session has this many cards, and this contest.
+// Whether the session has this number of cards and this contest.
 fn is_about(s: &Session, cards: u32, contest: &Name) -> bool
     ensures { result ≡ ((s.now.session.cards == cards) && is_same s.now.contest contest.now) }
 {
     s.cards() == cards && s.contest().bytes() == contest.bytes()
 }
 
-/// Whether the session has this many cards, this contest and these margins.
+/// Returns whether the session has this number of cards, this contest and these margins.
 pub fn has_facts_of(s: &Session, cards: u32, contest: &Name, margins: &[u32]) -> bool
     ensures { result ≡ has_facts s.now cards contest.now margins.now }
 {
     is_about(s, cards, contest) && s.margins() == margins
 }
 
-/// Whether the session has this many cards, and the contest and the margins of the assertion file.
+/// Returns whether the session has this number of cards, and the contest and margins of the assertion file.
 pub fn has_facts(s: &Session, cards: u32, f: &AssertionFile) -> bool
     ensures { result ≡ has_facts s.now cards f.now.contest (margins_of f.now) }
 {
     is_about(s, cards, f.contest()) && are_margins(s.margins(), f.claims())
 }
 
-// The first digest of the session that isn't that of the file, or otherwise that the facts of the session aren't those of the files.
+// The first digest of the session that isn't the file's, or otherwise that the session's facts aren't those of the files.
 fn compared(s: &Session, d: &Digests, agree: bool) -> Result<(), InputFault>
     ensures same { (cards : ℕ) (contest margins : List ℕ)
         → agree ≡ has_facts s.now cards contest margins
@@ -125,8 +125,8 @@ fn compared(s: &Session, d: &Digests, agree: bool) -> Result<(), InputFault>
     Ok(())
 }
 
-/// Whether the session is one of files with these digests, a manifest with this many cards, a contest and the margins of its claims: the
-/// first digest that differs, in the order ballots, manifest, assertions, or otherwise a fact that does.
+/// Checks whether the session is one of files with these digests, a manifest with this number of cards, a contest and the margins of its
+/// claims. The error is the first digest that differs, in the order ballots, manifest, assertions, or otherwise a fact that differs.
 pub fn same_facts(
     s: &Session,
     d: &Digests,
@@ -140,8 +140,8 @@ pub fn same_facts(
     compared(s, d, has_facts_of(s, cards, contest, margins))
 }
 
-/// Whether the session is one of files with these digests, a manifest with this many cards, and an assertion file: the first digest that
-/// differs, in the order ballots, manifest, assertions, or otherwise a fact that does.
+/// Checks whether the session is one of files with these digests, a manifest with this number of cards, and an assertion file. The error is
+/// the first digest that differs, in the order ballots, manifest, assertions, or otherwise a fact that differs.
 pub fn same_inputs(
     s: &Session,
     d: &Digests,

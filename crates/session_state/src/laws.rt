@@ -1,8 +1,8 @@
-//! The laws of sessions: each holds of every value that it names, and has no code.
+//! The laws of sessions. Each holds of every value that it names, and has no code.
 ghost use Rattle.session_state.specs.Laws.{SessionLaw, SignedOffLaw, EveryDrawLaw, PartlySeenLaw, FactsLaw};
 ghost use Rattle.session_state.specs.RiskOfValues.{ValuesRiskLimit, CountedValuesRiskLimit};
 
-/// A session is that of some draws exactly if it keeps what a session keeps, and its counts are those of the draws.
+/// A session is that of some draws exactly if it keeps the invariants of a session and its counts are those of the draws.
 pub fn session()
     ensures { SessionLaw }
 {}
@@ -12,22 +12,22 @@ pub fn signed_off()
     ensures { SignedOffLaw }
 {}
 
-/// Some session of the draws is signed off exactly if the one with a round after each draw is.
+/// Some session of the draws is signed off exactly if the session with a round after each draw is.
 pub fn every_draw()
     ensures { EveryDrawLaw }
 {}
 
-/// If only some cards were looked at, each other one counts as missing, and that is a reading of all cards.
+/// If only some cards were looked at, every other card counts as missing, and that is a reading of all cards.
 pub fn partly_seen()
     ensures { PartlySeenLaw }
 {}
 
-/// Whether a session has some facts is decided by a test.
+/// A test decides whether a session has some facts.
 pub fn facts()
     ensures { FactsLaw }
 {}
 
-/// The risk limit of any claims, whatever they are about: if one isn't true, few sequences are signed off.
+/// The risk limit of any claims, whatever they are about: if a claim isn't true, few sequences are signed off.
 pub fn values_risk_limit()
     ensures { ValuesRiskLimit }
 {}

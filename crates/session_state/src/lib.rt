@@ -1,4 +1,4 @@
-//! The session of an audit: what it keeps of its rounds, when it is signed off, and which one the draws give.
+//! The session of an audit: what it stores about its rounds, when it is signed off, and which session the draws give.
 #![tactic(auto)]
 
 mod begin;

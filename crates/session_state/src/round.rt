@@ -1,10 +1,10 @@
-// A round of draws that is done.
+// A finished round of draws.
 ghost use Rattle.std.specs.Prelude.{◌≡◌};
 
 use km_risk::Counts;
 use std::marker::Model;
 
-/// A round that is done: all draws so far, and for each claim their counts and the printed risk.
+/// A finished round: all draws so far, and for each claim the counts over these draws and the printed risk.
 #[derive(Drop)]
 pub struct DoneRound {
     draws: u32,
@@ -25,7 +25,7 @@ impl Model for DoneRound {
 }
 
 impl DoneRound {
-    /// The round with this many draws in all, and these counts and printed risks, one each for a claim.
+    /// Makes the round with this number of draws in total, and with these counts and printed risks, one for each claim.
     pub fn new(draws: u32, counts: Vec<Counts>, risks: Vec<u64>) -> DoneRound
         ensures { result ≡ record { draws = draws; counts = counts.items; risks = risks.items } }
     {
@@ -36,21 +36,21 @@ impl DoneRound {
         }
     }
 
-    /// How many draws there were so far, those of earlier rounds among them.
+    /// Returns the number of draws so far, including those of earlier rounds.
     pub fn draws(&self) -> u32
         ensures { result ≡ self.now.draws }
     {
         self.draws
     }
 
-    /// The counts of each claim.
+    /// Returns the counts of each claim.
     pub fn counts(&self) -> &[Counts]
         ensures { result.now ≡ self.now.counts }
     {
         self.counts.as_slice()
     }
 
-    /// The printed risk of each claim, in units of 10^-18.
+    /// Returns the printed risk of each claim, in units of 10^-18.
     pub fn risks(&self) -> &[u64]
         ensures { result.now ≡ self.now.risks }
     {

@@ -11,12 +11,12 @@ use sampler::Seed;
 use std::marker::Model;
 
 /// The session of an audit: the contest, the cards of the manifest, the margin of each claim in votes, the seed of the draws, the
-/// risk limit in millionths, gamma in thousandths, the digests of the files, and the rounds that are done.
+/// risk limit in millionths, gamma in thousandths, the digests of the files, and the finished rounds.
 ///
-/// There is a claim, and each margin is 1 to the number of cards. The draws of the rounds rise. Each round has as many counts
-/// and risks as there are claims; the counts are of all its draws, and the risk of a claim is the printed risk of its counts.
+/// There is at least one claim, and each margin is 1 to the number of cards. The draws increase from round to round. Each round has as many
+/// counts and risks as there are claims. The counts are over all its draws, and the risk of a claim is the printed risk of its counts.
 ///
-/// To a contract a session is the record of these values, with a list for each list.
+/// In a contract, a session is the record of these values, with a list for each list.
 #[derive(Drop)]
 pub struct Session {
     contest: Name,
@@ -62,7 +62,7 @@ impl Model for Session {
 }
 
 impl Session {
-    /// A session with these values.
+    /// Makes a session with these values.
     pub fn new(
         contest: Name,
         cards: u32,
@@ -110,14 +110,14 @@ impl Session {
         }
     }
 
-    /// The id of the contest.
+    /// Returns the id of the contest.
     pub fn contest(&self) -> &Name
         ensures { result.now ≡ self.now.contest }
     {
         &self.contest
     }
 
-    /// How many cards the manifest has.
+    /// Returns the number of cards in the manifest.
     pub fn cards(&self) -> u32
         ensures same { result ≡ self.now.session.cards }
         ensures sound { IsSound self.now }
@@ -125,21 +125,21 @@ impl Session {
         self.cards
     }
 
-    /// The margin of each claim.
+    /// Returns the margin of each claim.
     pub fn margins(&self) -> &[u32]
         ensures { result.now ≡ self.now.session.margins }
     {
         self.margins.as_slice()
     }
 
-    /// The seed of the draws.
+    /// Returns the seed of the draws.
     pub fn seed(&self) -> &Seed
         ensures { result.now ≡ self.now.seed }
     {
         &self.seed
     }
 
-    /// The risk limit, in millionths.
+    /// Returns the risk limit, in millionths.
     pub fn limit(&self) -> u32
         ensures same { result ≡ self.now.session.limit }
         ensures most { result ≤ GREATEST_LIMIT }
@@ -147,28 +147,28 @@ impl Session {
         self.limit
     }
 
-    /// Gamma, in thousandths.
+    /// Returns gamma, in thousandths.
     pub fn gamma(&self) -> u32
         ensures { result ≡ self.now.session.gamma }
     {
         self.gamma
     }
 
-    /// The digests of the files.
+    /// Returns the digests of the files.
     pub fn digests(&self) -> &Digests
         ensures { result.now ≡ self.now.digests }
     {
         &self.digests
     }
 
-    /// The rounds that are done.
+    /// Returns the finished rounds.
     pub fn rounds(&self) -> &[DoneRound]
         ensures { result.now ≡ self.now.session.rounds }
     {
         self.rounds.as_slice()
     }
 
-    /// Adds a round after the others. If memory is short, the session stays as it is.
+    /// Adds a round after the others. If memory runs out, the session doesn't change.
     pub fn add_round(&mut self, round: DoneRound) -> Result<(), Memory>
         requires round { IsRound self.old.session round }
         requires later { All (λ earlier. earlier.draws < round.draws) self.old.session.rounds }

@@ -7,7 +7,7 @@ ghost use Rattle.session_state.specs.Sessions.{is_at_most, is_signed_off, meets}
 use crate::round::DoneRound;
 use crate::session::Session;
 
-// The risk of the claim with this place, from 0, at the end of the round.
+// The risk of the claim with this index, counted from 0, at the end of the round.
 fn risk_at(round: &DoneRound, claim: usize) -> Option<u64>
     ensures { result ≡ slice_get round.now.risks claim }
 {
@@ -24,7 +24,7 @@ fn is_at_most(limit: u32, risk: Option<u64>) -> bool
     }
 }
 
-// The claim was within the limit at the end of some round.
+// Whether the claim was within the limit at the end of some round.
 fn is_confirmed(limit: u32, claim: usize, rounds: &[DoneRound]) -> bool
     requires { limit ≤ GREATEST_LIMIT }
     ensures { result ≡ list_any (meets limit claim) rounds.now }
@@ -37,7 +37,7 @@ fn is_confirmed(limit: u32, claim: usize, rounds: &[DoneRound]) -> bool
     false
 }
 
-/// Whether there is a round, and every claim had a risk within the limit at the end of some round.
+/// Returns whether there is a round, and every claim had a risk within the limit at the end of some round.
 pub fn signed_off(s: &Session) -> bool
     ensures { result ≡ is_signed_off s.now.session }
 {

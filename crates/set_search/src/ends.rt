@@ -41,7 +41,7 @@ pub enum SetsFault {
     /// More sets are needed than the budget allows. The answer includes the order that a search starts with, and its hardness, in votes,
     /// which is above 0.
     Spent { order: Order, margin: u32 },
-    /// There isn't enough memory.
+    /// Memory could not be allocated.
     Memory,
 }
 

@@ -14,7 +14,7 @@ use Rattle.set_tallies.proofs.Befores.{misses-other, misses-member}
 use Rattle.set_tallies.proofs.Filled.{map-same}
 use Rattle.set_tallies.proofs.Totals.{range-split, total-same, total-le, total-split, total-none, total-has}
 
--- ---- a set with one candidate more
+-- ---- a set with one more candidate
 pub misses-turned : (a b : ℕ) → misses a b ≡ misses b a
 misses-turned a b = ap (λ x. x == 0) (and_comm b a)
 
@@ -130,7 +130,7 @@ module _ (n : ℕ) (without having : List ℕ) (w : length without ≡ 2 ^ n) (h
   both-at : (i : ℕ) → i < 2 ^ n → get_or (sums_of without) i 0 + get_or (sums_of having) i 0 ≡ apart i (without ++ having)
   both-at i l = ap₂ (λ x y. x + y) (sum-at without i (omega (arith, w, l))) (sum-at having i (omega (arith, h, l))) ∙ sym (apart-both n without having w h i l)
 
-  -- each sum is within that of the whole table
+  -- each sum is at most that of the whole table
   pub sums-fit : (m i : ℕ) → apart 0 (without ++ having) ≤ m → i < 2 ^ n → get_or (sums_of without) i 0 + get_or (sums_of having) i 0 ≤ m
   sums-fit m i few l = omega (arith, both-at i l, apart-le i (without ++ having), few)
 

@@ -1,4 +1,4 @@
--- On a ballot a candidate is the first of a set exactly where it is in the set and nobody of the set stands before it.
+-- On a ballot, a candidate is the first of a set exactly if it is in the set and nobody of the set comes before it.
 use Rattle.std.proofs.Common.{◌==◌, ◌≡◌, ℕ, ◌*◌, ◌<◌, ◌^◌, Bool, true, false, cond, bit_and, bit_or, inl, inr, List, [], ◌∷◌, Some, All, refl, sym, ap, arith, eq-eqb, eqb-true, ◌∙◌}
 use Rattle.std.specs.Int.{bit_at}
 use Rattle.std.specs.Int.Bits.{and_zero_l}
@@ -10,7 +10,7 @@ use Rattle.irv_base.specs.Records.{top, is_some_of, is_first, is_ahead}
 use Rattle.set_tallies.specs.Bags.{misses, everyone}
 use Rattle.set_tallies.specs.Befores.{before_after, before, is_missed}
 
--- ---- one candidate more before
+-- ---- one more candidate before
 pub misses-other : (set b d : ℕ) → has set d ≡ false → misses set (bit_or b (2 ^ d)) ≡ misses set b
 misses-other set b d out =
     let ne = eqb-false (bit_at set d) 1 out in

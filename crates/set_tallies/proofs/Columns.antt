@@ -25,14 +25,14 @@ module _ (n k : ℕ) (table : List ℕ) (c : ℕ) where
   pub column-at : (s : ℕ) → s < 2 ^ k → get_or (column n k table c) s 0 ≡ get_or table (s * n + c) 0
   column-at s l = get_or-map-range_with_len (λ s. get_or table (s * n + c) 0) 0 (2 ^ k) s s 0 l (omega arith)
 
--- what stands in a table stands in one of its columns
+-- every number in a table is in one of its columns
 pub place-at : (n k : ℕ) (table : List ℕ) (i : ℕ) → 1 ≤ n → i < n * 2 ^ k → (i % n < n) × (i / n < 2 ^ k) ×
     (get_or (column n k table (i % n)) (i / n) 0 ≡ get_or table i 0)
 place-at n k table i some l =
     let row : i / n < 2 ^ k = (div-lt_iff_lt-mul some).1 (omega (arith, l)) in
     (mod-lt i some, row, column-at n k table (i % n) (i / n) row ∙ ap (λ j. get_or table j 0) (div-add-mod' i n))
 
--- a table of so many numbers has room
+-- a table with this many numbers has room
 pub cells : (n k : ℕ) → n ≤ MOST_SUMMED → k ≤ MOST_SUMMED → n * 2 ^ k % 2 ^ 64 ≡ n * 2 ^ k
 cells n k few small =
     let two : 0 < 2 = omega arith in
@@ -40,7 +40,7 @@ cells n k few small =
     let product : n * 2 ^ k ≤ MOST_SUMMED * 2 ^ MOST_SUMMED = mul-le-mul few below in
     mod-eq_of_lt (omega (arith, product))
 
--- ---- one number more
+-- ---- one more number
 pub apart-more : (s : ℕ) (numbers : List ℕ) (k v : ℕ) → k < length numbers → apart s (set numbers k (get_or numbers k 0 + v))
     ≡ apart s numbers + cond (misses s k) v 0
 apart-more s numbers k v l =
@@ -111,7 +111,7 @@ module _ (n k : ℕ) (table : List ℕ) (long : length table ≡ n * 2 ^ k) (s c
         ∙ ap (λ x. apart w (column n k table x) + cond (misses w s) v 0) (sym at)
     go false e = let ne = eqb-false d c e in ap (apart w) (column-other d l ne) ∙ omega arith
 
-  -- it fits where all that the column sums up to does
+  -- it fits if the total of the column does
   pub place-fits : (m : ℕ) → apart 0 (column n k table c) + v ≤ m → get_or table (s * n + c) 0 + v ≤ m
   place-fits m fit = omega (arith, fit, column-at n k table c s row, place-le (column n k table c) s (omega (arith, row, column-long n k table c)))
 
@@ -184,7 +184,7 @@ module _ (n k most : ℕ) (table without having : List ℕ) (s : AreHalves n k t
 
   module _ (a b : List ℕ) (la : length a ≡ n * 2 ^ (k - 1)) (lb : length b ≡ n * 2 ^ (k - 1)) (sa : (c : ℕ) → c < n →
       column n (k - 1) a c ≡ sums_of (column n (k - 1) without c)) (sb : (c : ℕ) → c < n → column n (k - 1) b c ≡ sums_of (column n (k - 1) having c)) where
-    -- each number of the one half and that of the other fit together
+    -- each number of the first half and the matching number of the second half fit together
     pub both-fit : (i : ℕ) → 1 ≤ n → i < length a → get_or a i 0 + get_or b i 0 ≤ most
     both-fit i some l =
         let inside : i < n * 2 ^ (k - 1) = omega (arith, l, la) in

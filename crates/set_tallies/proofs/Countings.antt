@@ -1,4 +1,4 @@
--- A counting, with a ranking or a candidate more.
+-- A counting with one more ranking or one more candidate.
 use Rattle.std.proofs.Common.{◌≡◌, ◌==◌, ℕ, suc, ◌+◌, ◌*◌, ◌^◌, ◌<◌, ◌≤◌, Bool, true, false, cond, ◌&&◌, ◌||◌, bit_or, List, [], ◌∷◌, ◌++◌, Some, length, map, get_or, count_by, refl, sym, ap, subst, arith, eqb-true, pow_pos, append-nil, length-append, ◌∙◌}
 use Rattle.std.specs.Prelude.{All}
 use Rattle.std.proofs.Math.Pow.{pow-lt}
@@ -35,7 +35,7 @@ seen-below n seen [] l below = l
 seen-below n seen (d ∷ rest) l below =
     seen-below n (bit_or seen (2 ^ d)) rest (or_lt n seen (2 ^ d) l (pow-lt (below 0 d (omega arith)))) (λ k x m. below (suc k) x (omega (arith, m)))
 
--- ---- one candidate more
+-- ---- one more candidate
 missed-out : (set seen : ℕ) (ranking : List ℕ) (c : ℕ) → is_in ranking c ≡ false → is_missed set (before_after seen ranking c) ≡ false
 missed-out set seen [] c out = refl
 missed-out set seen (d ∷ rest) c out = go (d == c) out (missed-out set (bit_or seen (2 ^ d)) rest c) where
@@ -44,7 +44,7 @@ missed-out set seen (d ∷ rest) c out = go (d == c) out (missed-out set (bit_or
   go true e ih = absurd (both_ways true e refl)
   go false e ih = ih e
 
--- whether a ballot has the candidate d with nobody of the set before, as a number
+-- whether a ballot has the candidate d with nobody of the set before it, as a number
 abbrev missed : ℕ → ℕ → List ℕ → ℕ → ℕ
 missed set seen ranking d = cond (is_missed set (before_after seen ranking d)) 1 0
 
@@ -71,7 +71,7 @@ missed-longer set seen (x ∷ rest) c d out = go (x == d) refl (x == c) refl out
       let one : ℕ = cond (misses set seen) 1 0 in
       omega (arith, ap (λ b. let more : ℕ = cond (b && misses set (seen_after (bit_or seen (2 ^ x)) rest)) 1 0 in one + more) apart)
 
--- ---- what a counting keeps
+-- ---- the invariant of a counting
 module _ (n records seen : ℕ) (table : List ℕ) (rankings : List (List ℕ)) (are : AreCounted n records seen table rankings) where
   pub begun : records < MOST_RECORDS → AreCounted n (records + 1) 0 table (rankings ++ [] ∷ [])
   begun few = record {
@@ -138,7 +138,7 @@ module _ (n records seen : ℕ) (table : List ℕ) (rankings : List (List ℕ)) 
       };
     })
 
--- ---- others behind them
+-- ---- other rankings after them
 pub last-none : (own its : List (List ℕ)) → length its ≡ 0 → last_of (own ++ its) ≡ last_of own
 last-none own [] none = ap last_of (append-nil own)
 last-none own (ranking ∷ rest) none = absurd (omega arith)

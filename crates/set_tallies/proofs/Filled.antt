@@ -1,4 +1,4 @@
--- What a bag says of the records.
+-- What a bag says about the records.
 use Rattle.std.proofs.Common.{◌≡◌, ℕ, suc, zero, ◌+◌, ◌<◌, ◌≤◌, ◌^◌, Bool, true, false, cond, if◌then◌else◌, Option, Some, None, IfSome, List, [], ◌∷◌, All, length, map, get_or, count_by, IsPermutation, pow_pos, refl, sym, ap, ap₂, subst, arith, ◌∙◌}
 use Rattle.std.specs.List.{range_with_len}
 use Rattle.std.proofs.Math.Pow.{pow-lt}
@@ -91,7 +91,7 @@ cell f xs k j v d l at m e = ap (λ r. get_or r j 0) (get_or-map f xs k d [] l �
 pub row-long : (bag : Kept) (set : ℕ) → length (votes_of bag set) ≡ bag.n
 row-long bag set = length-map-range_with_len (λ c. if has set c then votes_at bag set c else 0) 0 bag.n
 
--- a set's numbers have the tallies of those in it
+-- the numbers of a set include the tallies of those in it
 pub numbers-tally : (bag : Kept) (records : List (List ℕ)) (set : ℕ) (row : List ℕ) → set < 2 ^ bag.n → IsOf bag records →
     ((c : ℕ) → c < bag.n → has set c ≡ true → get_or row c 0 ≡ votes_at bag set c) → HasTallies records bag.n set row
 numbers-tally bag records set row below h is c l inside = is c l inside ∙ h.tallies set c below l inside
@@ -126,7 +126,7 @@ pub if-some : {X : Type 0} (P Q : X → Type 0) (o : Option X) → ((x : X) → 
 if-some P Q None f h = tt
 if-some P Q (Some x) f h = f x h
 
--- what is said of one more, and of what was there
+-- what holds for one more, and for what was there
 pub one-more : {X : Type 0} (P : X → Type 0) (b : Bool) (x : X) (o : Option X) → (b ≡ true → P x) → IfSome o P → IfSome (cond b (Some x) o) P
 one-more P true x o own others = own refl
 one-more P false x o own others = others

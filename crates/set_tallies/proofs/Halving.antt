@@ -1,4 +1,4 @@
--- Sums in half the room: a set and its complement, and the sums over the first candidates' sets.
+-- Sums in half the space: a set and its complement, and the sums over the first candidates' sets.
 use Rattle.std.proofs.Common.{◌≡◌, ◌==◌, ℕ, zero, suc, ◌+◌, ◌-◌, ◌*◌, ◌/◌, ◌%◌, ◌^◌, ◌<◌, ◌≤◌, nat_lt, Bool, true, false, cond, not, ◌&&◌, ◌||◌, bit_and, bit_or, max, ◌⊎◌, inl, inr, Some, List, [], ◌∷◌, length, map, get_or, refl, sym, ap, ap₂, subst, arith, eq-eqb, eqb-true, ne_eqb, pow_pos, ltb-true, ltb-false, ◌∙◌}
 use Rattle.std.specs.Int.{bit_at}
 use Rattle.std.proofs.Math.Nat.{add-mul, div-add-mod', div-lt_iff_lt-mul, mod-lt}
@@ -88,7 +88,7 @@ with-has s c = has-with s c c ∙ go (has s c) where
 pub with-below : (n s c : ℕ) → s < 2 ^ n → c < n → bit_or s (2 ^ c) < 2 ^ n
 with-below n s c below l = or_lt n s (2 ^ c) below (pow-lt l)
 
--- a member is one already
+-- a member is already in the set
 pub with-same : (s c : ℕ) → has s c ≡ true → bit_or s (2 ^ c) ≡ s
 with-same s c inside = same_from_bits (bit_or s (2 ^ c)) s (λ i. bit_at_or s (2 ^ c) i ∙ go i (cases_Bool (i == c))) where
   go : (i : ℕ) → ((i == c) ≡ true) ⊎ ((i == c) ≡ false) → max (bit_at s i) (bit_at (2 ^ c) i) ≡ bit_at s i
@@ -133,7 +133,7 @@ misses-parts n h l B lo some below =
     ∙ misses-block h (b / 16) l (b % 16) lo (mod-lt b (omega arith))
     ∙ ap (λ t. t && misses h (b / 16)) (misses-own 4 l b low)
 
--- what is read from the sums
+-- what the sums give when they are read
 pub says-low : (n : ℕ) (numbers sums : List ℕ) → 4 ≤ n → ((low : ℕ) → low < 16 → column 16 (n - 4) sums low ≡ sums_of (column 16 (n - 4) numbers low)) →
     (set : ℕ) → set < 2 ^ n → get_or sums set 0 ≡ apart (set / 16) (column 16 (n - 4) numbers (set % 16))
 says-low n numbers sums some made set below =
@@ -145,7 +145,7 @@ says-low n numbers sums some made set below =
     ∙ ap (λ xs. get_or xs (set / 16) 0) (made (set % 16) low)
     ∙ sum-at (column 16 (n - 4) numbers (set % 16)) (set / 16) long
 
--- ---- nobody stands before itself
+-- ---- no candidate comes before itself
 misses-own_more : (set b c : ℕ) → has b c ≡ false → misses (bit_or set (2 ^ c)) b ≡ misses set b
 misses-own_more set b c out = misses-turned (bit_or set (2 ^ c)) b ∙ misses-other b set c out ∙ misses-turned b set
 
@@ -182,7 +182,7 @@ entries-most n records most lists within h = record {
   alone = h.alone;
 }
 
--- every ballot has nobody of no set before
+-- on every ballot, nobody of the empty set comes before the candidate
 pub missing-all : (entries : List Entry) → missing 0 entries ≡ total entries
 missing-all [] = refl
 missing-all (e ∷ rest) =

@@ -1,4 +1,4 @@
--- Entries, as rankings are noted in those of each candidate, and joined.
+-- Entries, as rankings are noted in those of each candidate, and as they are joined.
 use Rattle.std.proofs.Common.{◌≡◌, ◌==◌, ℕ, ◌+◌, ◌<◌, ◌≤◌, Bool, true, cond, ◌&&◌, inl, inr, List, [], ◌∷◌, ◌++◌, All, length, map, set, take, replicate, get_or, count_by, refl, sym, ap, ap₂, subst, arith, eqb-true, length-append, ◌∙◌}
 use Rattle.std.proofs.Math.Seq.{get_or-append_seam}
 use Rattle.std.proofs.lemmas.Bool.{cases_Bool, cases_lt, eqb-false}
@@ -10,7 +10,7 @@ use Rattle.set_tallies.specs.declared.entry.Entry.{Entry}
 use Rattle.set_tallies.proofs.Apart.{misses-empty}
 use Rattle.set_tallies.proofs.Filled.{at-place, own-entries}
 
--- a list in whose place another one stands, with one ballot more
+-- a list in which one element is replaced with one that has one more ballot
 pub put-counted : {X : Type 0} (f : X → List Entry) (xs : List X) (d : ℕ) (old new : X) (seen s c : ℕ) → d < length xs → old ≡ get_or xs d old →
     HasOneMore seen (f old) (f new) → missing s (get_or (map f (set xs d new)) c []) ≡ missing s (get_or (map f xs) c []) + cond (c == d && misses s seen) 1 0
 put-counted f xs d old new seen s c l at more = elim (cases_Bool (c == d)) [
@@ -41,7 +41,7 @@ none-counted n records c l = subst (λ es. Counted es (take 0 records) c)
     none : List Entry
     none = []
 
--- each ballot that is noted has nobody of no candidates before
+-- each ballot noted has nobody of the empty set before the candidate
 total-le : (entries : List Entry) → total entries ≤ missing 0 entries
 total-le entries = sum_by-le-sum_by (λ e. e.count) (λ e. cond (misses 0 e.before) e.count 0) entries (λ e. whole e.count (misses-empty e.before))
   where

@@ -1,4 +1,4 @@
--- Entries whose sets and numbers stand in two lists, looked at side by side.
+-- Entries whose sets and numbers are in two lists, looked at side by side.
 use Rattle.std.proofs.Common.{◌≡◌, ◌==◌, ℕ, zero, suc, ◌+◌, ◌<◌, ◌≤◌, cond, List, [], ◌∷◌, ◌++◌, length, map, take, drop, replicate, bit_and, get_or, refl, sym, ap, arith, ◌∙◌}
 use native.Mathlib.Numerals.{unary_clauses}
 use Rattle.std.specs.Simd.Lanes.{zip2, sel_l, sum_l, chunk}
@@ -13,7 +13,7 @@ use Rattle.set_tallies.proofs.Runs.{missing-le}
 abbrev votes : ℕ → Entry → ℕ
 votes set e = cond (misses set e.before) e.count 0
 
--- the number of an entry that has nobody of the set, and 0 of another
+-- the number of an entry that has nobody of the set, and 0 for any other entry
 abbrev pub counted : ℕ → ℕ → ℕ → ℕ
 counted set before count = cond (misses set before) count 0
 
@@ -58,7 +58,7 @@ take-more (suc i) n (e ∷ entries) =
     let next : suc i + n ≡ suc (i + n) = omega arith in
     ap (λ k. take k (e ∷ entries)) next ∙ ap (λ es. e ∷ es) (take-more i n entries)
 
--- the votes of some entries, and of those side by side behind them
+-- the votes of some entries, and of those side by side after them
 pub next-votes : (set i n : ℕ) (sets counts : List ℕ) → length counts ≡ length sets →
     missing set (take i (paired sets counts)) + sum_l (zip2 (counted set) (chunk i n sets) (chunk i n counts)) ≡ missing set (take (i + n) (paired sets counts))
 next-votes set i n sets counts same =
@@ -66,7 +66,7 @@ next-votes set i n sets counts same =
     ∙ sym (sum_by-append (votes set) (take i (paired sets counts)) (chunk i n (paired sets counts)))
     ∙ ap (missing set) (sym (take-more i n (paired sets counts)))
 
--- the votes of the first entries are within the total
+-- the votes of the first entries are at most the total
 pub first-votes : (set i : ℕ) (entries : List Entry) → missing set (take i entries) ≤ total entries
 first-votes set i entries =
     omega (

@@ -1,4 +1,4 @@
--- Entries that are joined where they have the same set.
+-- Entries that are joined if they have the same set.
 use Rattle.std.proofs.Common.{◌≡◌, ℕ, ◌+◌, ◌<◌, ◌≤◌, Bool, true, false, cond, List, [], ◌∷◌, ◌++◌, length, take, get_or, set, sum_by, IsPermutation, refl, sym, ap, arith, ◌∙◌}
 use Rattle.std.proofs.lemmas.List.{take_all}
 use Rattle.std.proofs.lemmas.List.Sorted.{sum_by-IsPermutation}
@@ -51,7 +51,7 @@ joined entries runs run i all h = record {
   total = h.total ∙ ap total (take_all i entries all);
 }
 
--- the votes so far and the next count are within the total
+-- the votes so far plus the next count are at most the total
 pub votes-within : (set : ℕ) (entries : List Entry) (i : ℕ) (d : Entry) → i < length entries →
     missing set (take i entries) + (get_or entries i d).count ≤ total entries
 votes-within set entries i d l =
@@ -68,7 +68,7 @@ sorted-same entries sorted seen runs p s same = record {
   total = same.total ∙ ap total s ∙ sum_by-IsPermutation (λ e. e.count) entries sorted p;
 }
 
--- ---- one ballot more
+-- ---- one more ballot
 
 -- in a new entry
 pub one-new : (entries others : List Entry) (before : ℕ) → others ≡ entries ++ record { before = before; count = 1 } ∷ [] → HasOneMore before entries others

@@ -73,7 +73,7 @@ module _ (n : ℕ) (xs ys : List (List ℕ)) (a b : List ℕ) (is : IsCountOf n 
 
 -- ---- a share, ballot by ballot
 
--- one ballot more is counted
+-- one more ballot is counted
 pub counted-more : (passes : List ℕ → Bool) (rankings : List (List ℕ)) (first k : ℕ) (ranking : List ℕ) → slice_get rankings (first + k) ≡ Some ranking →
     count_by passes (take (k + 1) (drop first rankings)) ≡ count_by passes (take k (drop first rankings)) + cond (passes ranking) 1 0
 counted-more passes rankings first k ranking there =
@@ -83,7 +83,7 @@ counted-more passes rankings first k ranking there =
     get_or-drop first rankings k ranking ∙ get_or_from_slice_get rankings (first + k) ranking ranking there in
     sum_by_more (λ r. cond (passes r) 1 0) own k ranking within ∙ ap (λ r. count_by passes (take k own) + cond (passes r) 1 0) at
 
--- ---- the shares in turn
+-- ---- the shares, one by one
 pub none-counted : (n size : ℕ) (rankings : List (List ℕ)) (table : List ℕ) → length table ≡ n * 2 ^ n →
     ((s c : ℕ) → c < n → apart s (column n n table c) ≡ 0) → IsCountOf n (take (0 * size) rankings) table
 none-counted n size rankings table long none = record {
@@ -105,7 +105,7 @@ pub all-counted : (n size : ℕ) (rankings : List (List ℕ)) (shares yielded : 
 all-counted n size rankings shares yielded table whole are =
     subst (λ rs. IsCountOf n rs table) (take_all (length yielded * size) rankings (omega (arith, are.all, ap (λ rs. length rs * size) whole)))
 
--- the first chunks, and one more
+-- the first chunks, and one more chunk
 pub one-chunk-more : {X : Type 0} (xs : List X) (size k more : ℕ) → more ≡ k + 1 → take (k * size) xs ++ slice_chunk xs size k ≡ take (more * size) xs
 one-chunk-more xs size k more is =
     let ys = take (k * size + size) xs in

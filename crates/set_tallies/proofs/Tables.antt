@@ -1,4 +1,4 @@
--- The numbers of a table: those that ballots add, and the sums.
+-- The numbers of a table: the numbers that ballots add, and the sums.
 use Rattle.std.proofs.Common.{◌≡◌, ◌==◌, ℕ, ◌+◌, ◌-◌, ◌*◌, ◌%◌, ◌^◌, ◌<◌, mod-eq_of_lt, bit_and, Bool, true, false, cond, ◌&&◌, ◌||◌, bit_or, eqb-true, not, IsTrue, Some, List, [], ◌∷◌, ◌++◌, length, take, drop, get_or, ◌⊎◌, inl, inr, refl, sym, ap, ap₂, arith, ◌∙◌, eq-eqb}
 use Rattle.std.proofs.lemmas.Bool.{cases_Bool, both_ways, eqb-false, and_parts}
 use Rattle.std.proofs.lemmas.List.{take_at}
@@ -13,11 +13,11 @@ use Rattle.set_tallies.specs.Sums.{column, apart, sums_of}
 use Rattle.set_tallies.proofs.Apart.{sum-at}
 use Rattle.set_tallies.proofs.Columns.{column-at, column-long}
 
--- a vector whose numbers were all written
+-- a vector, all of whose numbers were written
 pub all-written : (n : ℕ) (new items : List ℕ) → length new ≡ n → take n (new ++ drop (length new) items) ≡ new
 all-written n new items long = take_at new (drop (length new) items) n long
 
--- what is read from the sums
+-- what the sums give when they are read
 pub says-sum : (n : ℕ) (table sums : List ℕ) (s c : ℕ) → s < 2 ^ n → column n n sums c ≡ sums_of (column n n table c) →
     get_or sums (s * n + c) 0 ≡ apart s (column n n table c)
 says-sum n table sums s c l made =
@@ -25,7 +25,7 @@ says-sum n table sums s c l made =
 
 -- ---- entries
 
--- of a set the first n candidates count, where the other set has no others
+-- only the first n candidates of a set count, if the other set has no others
 pub misses-own : (n s other : ℕ) → s < 2 ^ n → misses s (other % 2 ^ n) ≡ misses s other
 misses-own n s other small = ap (λ x. x == 0) (
     ap (λ x. bit_and x s) (sym (and_mask other n))

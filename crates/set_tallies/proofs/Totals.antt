@@ -1,4 +1,4 @@
--- Sums of what a function gives for the numbers of a range.
+-- Sums of the values of a function at the numbers of a range.
 use Rattle.std.proofs.Common.{◌≡◌, ◌==◌, ℕ, zero, suc, ◌+◌, ◌<◌, ◌≤◌, Bool, true, false, inl, inr, ◌∷◌, ◌++◌, sum_by, refl, sym, ap, ap₂, arith, eqb-true, ◌∙◌}
 use Rattle.std.specs.List.{range_with_len}
 use Rattle.std.proofs.lemmas.Bool.{cases_Bool, eqb-false}
@@ -27,7 +27,7 @@ pub total-le : (f g : ℕ → ℕ) (a n : ℕ) → ((i : ℕ) → f i ≤ g i) �
 total-le f g a zero h = omega arith
 total-le f g a (suc n) h = omega (arith, first f a n, first g a n, h a, total-le f g (a + 1) n h)
 
--- the third gives what the two give together
+-- the third function gives the sum of what the first two give
 pub total-plus : (f g h : ℕ → ℕ) (a n : ℕ) → ((i : ℕ) → a ≤ i → i < a + n → h i ≡ f i + g i) → total_from h a n ≡ total_from f a n + total_from g a n
 total-plus f g h a zero is = refl
 total-plus f g h a (suc n) is =
@@ -41,7 +41,7 @@ total-plus f g h a (suc n) is =
           (λ i l m. is i (omega arith) (omega arith)),
     )
 
--- the second gives more at one number alone
+-- the second function gives more at only one number
 pub total-more : (f g : ℕ → ℕ) (k d a n : ℕ) → a ≤ k → k < a + n → g k ≡ f k + d → ((i : ℕ) → (i == k) ≡ false → g i ≡ f i) →
     total_from g a n ≡ total_from f a n + d
 total-more f g k d a zero l m here there = absurd (omega arith)

@@ -1,5 +1,5 @@
--- What is kept of the records of a contest, and what it has to say of them: how many ballots have a candidate with nobody of a set
--- before.
+-- What a bag keeps of the records of a contest, and what that must say about them: the number of ballots that have a candidate with
+-- nobody of a set before it.
 use Rattle.std.specs.Prelude.{◌≡◌, ℕ, ◌<◌, ◌≤◌, ◌-◌, ◌^◌, nat_lt, Bool, true, ◌==◌, if◌then◌else◌, List, [], length, map, filter, sum_by, count_by, get_or, All, bit_and, bit_or}
 use Rattle.irv_base.specs.Candidates.{candidates, has}
 use Rattle.irv_base.specs.Records.{tally, is_first, is_ahead}
@@ -7,17 +7,17 @@ use Rattle.irv_base.specs.declared.limits.TheConstants.{FEWEST_CANDIDATES, ROOM,
 use Rattle.set_tallies.specs.declared.entry.Entry.{Entry}
 
 pub record Kept : Type 0 where
-  -- how many candidates there are
+  -- the number of candidates
   pub n : ℕ
-  -- how many records there are
+  -- the number of records
   pub records : ℕ
-  -- for each set and each candidate: how many ballots have the candidate with nobody of the set before
+  -- for each set and each candidate: the number of ballots that have the candidate with nobody of the set before it
   pub votes : List (List ℕ)
 
 abbrev pub votes_at : Kept → ℕ → ℕ → ℕ
 votes_at bag set c = get_or (get_or bag.votes set []) c 0
 
--- what a function gives for each set of n candidates, and each candidate
+-- the values of a function for each set of n candidates and each candidate
 abbrev pub all_votes : ℕ → (ℕ → ℕ → ℕ) → List (List ℕ)
 all_votes n votes = map (λ set. map (votes set) (candidates n)) (candidates (2 ^ n))
 
@@ -25,7 +25,7 @@ all_votes n votes = map (λ set. map (votes set) (candidates n)) (candidates (2 
 abbrev pub everyone : ℕ → ℕ
 everyone n = 2 ^ n - 1
 
--- the bag is one of these records, whatever their order: it has their number, their tallies, and the two numbers of NEB's margin
+-- the bag is a bag of these records, in whatever order: it has their number, their tallies, and the two numbers of NEB's margin
 pub record IsOf (bag : Kept) (records : List (List ℕ)) : Type 0 where
   pub all : bag.records ≡ length records
   pub tallies : (set c : ℕ) → set < 2 ^ bag.n → c < bag.n → has set c ≡ true →
@@ -35,28 +35,28 @@ pub record IsOf (bag : Kept) (records : List (List ℕ)) : Type 0 where
   pub ahead : (l w : ℕ) → l < bag.n → w < bag.n →
       votes_at bag (2 ^ w) l ≡ count_by (λ ranking. is_ahead ranking l w) records
 
--- what every bag keeps
+-- what holds for every bag
 pub record IsKept (bag : Kept) : Type 0 where
   pub fewest : FEWEST_CANDIDATES ≤ bag.n
   pub room : bag.n ≤ ROOM
   pub most : bag.records ≤ MOST_RECORDS
 
--- the tallies of a set: one for each candidate, 0 for those outside
+-- the tallies of a set: one for each candidate, 0 for those outside the set
 abbrev pub tallies : List (List ℕ) → ℕ → ℕ → List ℕ
 tallies records n set = map (tally records set) (candidates n)
 
--- a row has the tallies of those in the set; what it has for others is unknown
+-- a row has the tallies of those in the set; what it has for the others is unknown
 abbrev pub HasTallies : List (List ℕ) → ℕ → ℕ → List ℕ → Type 0
 HasTallies records n set row =
     (c : ℕ) → c < n → has set c ≡ true → get_or row c 0 ≡ tally records set c
 
--- ---- entries: the sets of those who stand before a candidate, each with the number of such ballots
+-- ---- entries: the sets of those who come before a candidate, each with the number of its ballots
 
 -- no candidate is in both sets
 abbrev pub misses : ℕ → ℕ → Bool
 misses set other = bit_and other set == 0
 
--- how many ballots have the candidate with nobody of the set before
+-- the number of ballots that have the candidate with nobody of the set before it
 abbrev pub missing : ℕ → List Entry → ℕ
 missing set entries = sum_by (λ e. if misses set e.before then e.count else 0) entries
 
@@ -67,7 +67,7 @@ total entries = sum_by (λ e. e.count) entries
 pub record AreEntries (n records : ℕ) (lists : List (List Entry)) : Type 0 where
   pub one_each : length lists ≡ n
   pub few : All (λ entries. total entries ≤ records) lists
-  -- nobody comes before itself
+  -- no candidate comes before itself
   pub alone : (set c : ℕ) → c < n → missing (bit_or set (2 ^ c)) (get_or lists c []) ≡ missing set (get_or lists c [])
 
 -- ---- the two numbers of NEB's margin, for all candidates
@@ -77,14 +77,14 @@ pub record Counts : Type 0 where
   pub firsts : List ℕ
   pub ahead : List (List ℕ)
 
--- as they are of the records
+-- the counts are those of the records
 pub record AreOf (counts : Counts) (records : List (List ℕ)) : Type 0 where
   pub firsts : (w : ℕ) → w < counts.n →
       get_or counts.firsts w 0 ≡ count_by (λ ranking. is_first ranking w) records
   pub ahead : (l w : ℕ) → l < counts.n → w < counts.n →
       get_or (get_or counts.ahead l []) w 0 ≡ count_by (λ ranking. is_ahead ranking l w) records
 
--- the counts are those of the records that the bag is of
+-- the counts are those of the records of the bag
 pub record AreFilledFrom (bag : Kept) (counts : Counts) : Type 0 where
   pub same : counts.n ≡ bag.n
   pub own : (records : List (List ℕ)) → IsOf bag records → AreOf counts records
@@ -95,7 +95,8 @@ pub record IsTable (counts : Counts) : Type 0 where
   pub wide : length counts.ahead ≡ counts.n
   pub square : All (λ row. length row ≡ counts.n) counts.ahead
 
--- everyone who is first on more ballots than a loser has without it ahead, by the row of the loser: the winners of true NEBs
+-- everyone who is first on more ballots than have the loser without that candidate ahead of it, by the loser's row: the winners
+-- of true NEBs
 abbrev pub winners_in : List ℕ → List ℕ → List ℕ
 winners_in firsts row =
     filter (λ w. nat_lt (get_or row w 0) (get_or firsts w 0)) (candidates (length firsts))
@@ -105,7 +106,7 @@ pub record AreAhead (counts : Counts) (winners : List (List ℕ)) : Type 0 where
   pub table : IsTable counts
   pub each : winners ≡ map (winners_in counts.firsts) counts.ahead
 
--- what tallies are made from
+-- what tallies are computed from
 pub record Source : Type 0 where
   pub bag : Kept
   pub counts : Counts

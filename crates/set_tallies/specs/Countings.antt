@@ -1,4 +1,5 @@
--- Ballots that are counted as they come: no ranking is kept. The rankings of a counting are known by its course, which no code has.
+-- Ballots that are counted as they come, without keeping any ranking. The rankings of a counting are known by its course, which no
+-- code has.
 use Rattle.std.specs.Prelude.{◌≡◌, ℕ, ◌<◌, ◌≤◌, ◌^◌, List, [], ◌∷◌, ◌++◌, length, All, bit_or}
 use Rattle.irv_base.specs.declared.limits.TheConstants.{MOST_RECORDS}
 use Rattle.set_tallies.specs.Sums.{IsCountOf}
@@ -10,13 +11,13 @@ pub record CountedRankings : Type 0 where
   pub n : ℕ
   pub rankings : List (List ℕ)
 
--- these rankings with one candidate more at the end of the last
+-- these rankings with one more candidate at the end of the last one
 abbrev pub lengthened : List (List ℕ) → ℕ → List (List ℕ)
 lengthened [] c = []
 lengthened (last ∷ []) c = (last ++ c ∷ []) ∷ []
 lengthened (ranking ∷ next ∷ rest) c = ranking ∷ lengthened (next ∷ rest) c
 
--- the rankings that came by this course
+-- the rankings that were added by this course
 abbrev pub rankings_by : Course → List (List ℕ)
 rankings_by Nothing = []
 rankings_by (Begun' at earlier) = rankings_by earlier ++ [] ∷ []
@@ -30,7 +31,7 @@ last_of [] = []
 last_of (last ∷ []) = last
 last_of (ranking ∷ next ∷ rest) = last_of (next ∷ rest)
 
--- the set of those who were seen before and of the candidates of a ranking
+-- the set of the candidates seen before, together with those of a ranking
 abbrev pub seen_after : ℕ → List ℕ → ℕ
 seen_after seen [] = seen
 seen_after seen (c ∷ rest) = seen_after (bit_or seen (2 ^ c)) rest

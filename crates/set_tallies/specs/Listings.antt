@@ -1,4 +1,4 @@
--- Entries whose sets and numbers are in two lists of the same length.
+-- Entries whose sets and numbers are stored in two lists of the same length.
 use Rattle.std.specs.Prelude.{ℕ, List}
 use Rattle.std.specs.Simd.Lanes.{zip2}
 use Rattle.set_tallies.specs.declared.entry.Entry.{Entry}

@@ -5,7 +5,8 @@ use Rattle.std.specs.Fork.{slice_chunk}
 use Rattle.irv_base.specs.declared.memory.Memory.{Memory}
 use Rattle.set_tallies.specs.Sums.{IsCountOf}
 
--- each worker has counted the chunk of the rankings with its number, if there was memory for its table, and the chunks are all of them
+-- each worker has counted the chunk of the rankings with its number, if there was memory for its table, and the chunks together are
+-- all the rankings
 pub record AreShares
     (n size : ℕ) (rankings : List (List ℕ))
     (shares : List (Result (Vec ℕ Global) Memory)) : Type 0 where

@@ -1,6 +1,6 @@
--- A table has a number for each set of candidates and each candidate, set by set, the candidates next to each other: that of the set and
--- the candidate c of n is at the place set * n + c. First it says how many ballots have exactly that set before c; once summed, how many
--- have c with nobody of it before.
+-- A table has a number for each set of candidates and each candidate. It is stored set by set, with the candidates next to each
+-- other: the number for a set and the candidate c of n is at the place set * n + c. At first it is the number of ballots that have
+-- exactly that set before c. Once the table is summed, it is the number of ballots that have c with nobody of the set before it.
 use Rattle.std.specs.Prelude.{◌≡◌, ℕ, ◌+◌, ◌*◌, ◌<◌, ◌≤◌, ◌^◌, List, [], length, map, sum_by, count_by, slice_index, get_or, if◌then◌else◌}
 use Rattle.irv_base.specs.Candidates.{candidates}
 use Rattle.set_tallies.specs.Bags.{Kept, AreEntries, votes_at, misses, missing}
@@ -11,11 +11,11 @@ use Rattle.set_tallies.specs.declared.sums.Sums.{Sums}
 use Rattle.set_tallies.specs.declared.bag.Votes.{Votes}
 use Rattle.set_tallies.specs.declared.bag.Votes.TheVariants.{Summed, Halved, Listed}
 
--- the numbers of c of n, those of the sets of the first k candidates
+-- the numbers of the candidate c of n for the sets of the first k candidates
 abbrev pub column : ℕ → ℕ → List ℕ → ℕ → List ℕ
 column n k table c = map (λ set. slice_index table (set * n + c)) (candidates (2 ^ k))
 
--- the sum of what is in the column at the places of those sets that have nobody of this set
+-- the sum of the numbers in the column at the places of those sets that have nobody of this set
 abbrev pub apart : ℕ → List ℕ → ℕ
 apart set numbers =
     sum_by (λ other. if misses set other then slice_index numbers other else 0)
@@ -24,7 +24,7 @@ apart set numbers =
 abbrev pub sums_of : List ℕ → List ℕ
 sums_of numbers = map (λ set. apart set numbers) (candidates (length numbers))
 
--- the table counts these ballots: its numbers apart are those of the ballots that have a candidate with nobody of a set before
+-- the table counts these ballots: its numbers apart are those of the ballots that have a candidate with nobody of a set before it
 pub record IsCountOf (n : ℕ) (rankings : List (List ℕ)) (table : List ℕ) : Type 0 where
   pub long : length table ≡ n * 2 ^ n
   pub says : (set c : ℕ) → c < n →

@@ -10,14 +10,15 @@ use irv_base::{Candidate, Memory};
 use std::alloc::Global;
 use std::marker::Model;
 
-/// The two numbers of NEB's margin (RAIRE, section 3), for all candidates: on how many ballots one is first, and on how many one is ahead
-/// of another. It also lists the winners of the true NEBs, who are few if a contest is close.
+/// The two numbers of NEB's margin (RAIRE, section 3), for all candidates: the number of ballots on which a candidate is first, and
+/// the number on which a candidate is ahead of another. It also lists the winners of the true NEBs, who are few if a contest is
+/// close.
 #[derive(Drop)]
 pub struct Ahead {
     n: u32,
     firsts: Vec<u32>,
     ahead: Vec<Vec<u32>>,
-    // for each candidate those whose NEB over it is true
+    // for each candidate, those whose NEB over it is true
     neb_winners: Vec<Vec<Candidate>>,
 }
 
@@ -48,7 +49,7 @@ fn everyone(n: u32) -> u32
     ((1u64 << n) - 1) as u32
 }
 
-// On how many ballots the candidate is ahead of each other one.
+// The number of ballots on which the candidate is ahead of each other candidate.
 fn row(alloc: Global, bag: &Bag, c: Candidate) -> Result<Vec<u32>, Memory>
     requires { c < bag.now.n }
     ensures { IfOk result (λ row.
@@ -61,7 +62,7 @@ fn row(alloc: Global, bag: &Bag, c: Candidate) -> Result<Vec<u32>, Memory>
     Ok(row)
 }
 
-// Those who are first on more ballots than the loser has without them ahead of it.
+// Those who are first on more ballots than have the loser without them ahead of it.
 fn winners_of(alloc: Global, firsts: &[u32], ahead: &[u32]) -> Result<Vec<Candidate>, Memory>
     requires each { length ahead.now ≡ length firsts.now }
     requires room { length firsts.now ≤ ROOM }
@@ -76,7 +77,7 @@ fn winners_of(alloc: Global, firsts: &[u32], ahead: &[u32]) -> Result<Vec<Candid
     Ok(winners)
 }
 
-// The same of each loser.
+// The same for each loser.
 fn all_winners(
     alloc: Global,
     firsts: &[u32],
@@ -95,7 +96,7 @@ fn all_winners(
 }
 
 impl Ahead {
-    /// The numbers of the bag's records.
+    /// Computes the numbers from the bag's records.
     pub fn fill(alloc: Global, bag: &Bag) -> Result<Ahead, Memory>
         ensures { IfOk result (λ ahead. AreFilledFrom bag.now ahead) }
     {
@@ -116,7 +117,7 @@ impl Ahead {
         })
     }
 
-    /// On how many ballots `w` is first.
+    /// The number of ballots on which `w` is first.
     pub fn first(&self, w: Candidate) -> u32
         requires { w < self.now.n }
         ensures { (records : List (List ℕ)) → AreOf self.now records
@@ -125,7 +126,7 @@ impl Ahead {
         self.firsts[w.index()]
     }
 
-    /// How many ballots have `l`, and don't have `w` ahead of it.
+    /// The number of ballots that have `l` and don't have `w` ahead of it.
     pub fn ahead(&self, l: Candidate, w: Candidate) -> u32
         requires loser { l < self.now.n }
         requires winner { w < self.now.n }

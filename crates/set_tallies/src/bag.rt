@@ -1,8 +1,9 @@
 // The records of a contest.
 //
-// One table answers tallies, first preferences and who is ahead of whom. Up to `ALWAYS_SUMMED` candidates it is summed over all sets at
-// once, which takes no longer than making entries. With more candidates a bag begins with entries: the table of twenty has 21 megabytes
-// and takes some 0.2 s, while a search of a few strong candidates asks for some 400 rows, each counted in about a microsecond.
+// One table answers three questions: tallies, first preferences, and who is ahead of whom. With up to `ALWAYS_SUMMED` candidates,
+// it is summed over all sets at once, which takes no longer than making entries. With more candidates, a bag begins with entries:
+// the table for twenty has 21 megabytes and takes some 0.2 s, while a search with a few strong candidates needs some 400 rows, each
+// of which is counted in about a microsecond.
 ghost use Rattle.std.specs.Prelude.{◌≡◌, ℕ, ◌<◌, ◌≤◌, ◌^◌, [], map, get_or, length, count_by, All, IfOk, IfSome, IfNone, List};
 ghost use Rattle.irv_base.specs.declared.limits.TheConstants.{FEWEST_CANDIDATES, ROOM, MOST_RECORDS};
 ghost use Rattle.set_tallies.specs.Bags.{AreEntries, IsOf, missing, votes_at};
@@ -21,19 +22,20 @@ use std::alloc::Global;
 use std::marker::Model;
 use std::thread::Threads;
 
-/// Up to this many candidates have the sums over all sets from the start: they are made as soon as entries would be.
+/// With up to this many candidates, a bag has the sums over all sets from the start. They are made as soon as entries would be.
 pub const ALWAYS_SUMMED: u32 = 15;
 
-/// More candidates have them too if no more rows than this would be counted from entries before halved sums are made (`rows_in_time`).
+/// With more candidates, a bag has them too if no more rows than this would be counted from entries before halved sums are made
+/// (`rows_in_time`).
 pub const FEWEST_ROWS: u64 = 128;
 
-/// What is kept of the records: the sums over all sets, in one of two forms; or, for each candidate, the different sets of those who come
-/// before it on a ballot, each with the number of these ballots.
+/// What a bag keeps of the records. It is either the sums over all sets, in one of two forms, or, for each candidate, the different
+/// sets of those who come before it on a ballot, each with the number of these ballots.
 #[derive(Drop)]
 pub enum Votes {
     /// The sums over all sets.
     Summed(Sums),
-    /// The same in a quarter of the room.
+    /// The same sums in a quarter of the space.
     Halved(Halves),
     /// The entries of each candidate.
     Listed(Vec<Entries>),
@@ -41,8 +43,9 @@ pub enum Votes {
 
 /// The records of a contest, in any order.
 ///
-/// It knows for each set of candidates and each candidate how many ballots have the candidate with nobody of the set before: on a ballot
-/// a candidate is the first of a set exactly if it is in the set and the ballot has it with nobody of the set before it.
+/// For each set of candidates and each candidate, it knows the number of ballots that have the candidate with nobody of the set
+/// before it. On a ballot, a candidate is the first of a set exactly if it is in the set and the ballot has it with nobody of the
+/// set before it.
 #[derive(Drop)]
 pub struct Bag {
     n: u32,
@@ -69,7 +72,7 @@ impl Model for Bag {
     }) × AreHeld b.n b.records b.votes };
 }
 
-// The entries of each candidate, if rows of tallies are to be counted from them, and not to be read from sums.
+// The entries of each candidate, if rows of tallies are to be counted from them rather than read from sums.
 fn few_entries(alloc: Global, n: u32, rankings: &Rankings) -> Result<Option<Vec<Entries>>, Memory>
     requires room { n ≤ ROOM }
     requires most { length rankings.now ≤ MOST_RECORDS }
@@ -90,7 +93,7 @@ fn few_entries(alloc: Global, n: u32, rankings: &Rankings) -> Result<Option<Vec<
     Ok(Some(lists))
 }
 
-// What is kept of these records.
+// What a bag keeps of these records.
 fn votes_of<R: AllocGlobal + Threads + Sync>(
     rt: &R,
     n: u32,
@@ -115,7 +118,7 @@ fn votes_of<R: AllocGlobal + Threads + Sync>(
     }
 }
 
-// The sums that the entries of each candidate give.
+// Computes the sums from the entries of each candidate.
 fn sums_of(alloc: Global, n: u32, lists: &[Entries]) -> Result<Votes, Memory>
     requires some { 1 ≤ n }
     requires few { n ≤ MOST_SUMMED }
@@ -133,7 +136,7 @@ fn sums_of(alloc: Global, n: u32, lists: &[Entries]) -> Result<Votes, Memory>
 }
 
 impl Bag {
-    /// The bag of these records, of a contest with `n` candidates, counted by at most this many workers.
+    /// Makes the bag of these records, of a contest with `n` candidates, counted by at most this many workers.
     pub fn of<R: AllocGlobal + Threads + Sync>(
         rt: &R,
         n: u32,
@@ -153,7 +156,7 @@ impl Bag {
         Ok(Bag { n, records, votes })
     }
 
-    /// The bag of the records that were counted as they came.
+    /// Makes the bag of the records that were counted as they came.
     pub fn of_counting(alloc: Global, counting: &Counting) -> Result<Bag, Memory>
         requires { FEWEST_CANDIDATES ≤ counting.now.n }
         ensures candidates { IfOk result (λ bag. bag.n ≡ counting.now.n) }
@@ -167,7 +170,7 @@ impl Bag {
         })
     }
 
-    /// The same bag with sums over all sets, if it has none and has no more candidates than can have them.
+    /// Returns the same bag with sums over all sets, if it has no sums yet and has no more candidates than can have them.
     pub(crate) fn summed(&self, alloc: Global) -> Result<Option<Bag>, Memory>
         ensures { IfOk result (λ summed. IfSome summed (λ bag. bag ≡ self.now)) }
     {
@@ -186,7 +189,7 @@ impl Bag {
         }))
     }
 
-    /// How many candidates there are.
+    /// The number of candidates.
     pub fn candidates(&self) -> u32
         ensures same { result ≡ self.now.n }
         ensures fewest { FEWEST_CANDIDATES ≤ result }
@@ -195,7 +198,7 @@ impl Bag {
         self.n
     }
 
-    /// How many records there are.
+    /// The number of records.
     pub fn records(&self) -> u32
         ensures same { (records : List (List ℕ)) → IsOf self.now records
             → result ≡ length records }
@@ -213,7 +216,7 @@ impl Bag {
         &self.votes
     }
 
-    /// How many ballots have `c` with nobody of the set with this number before.
+    /// The number of ballots that have `c` with nobody of the set with this number before it.
     pub(crate) fn votes(&self, c: Candidate, set: u32) -> u32
         requires candidate { c < self.now.n }
         requires below { set < 2 ^ self.now.n }

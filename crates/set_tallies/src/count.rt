@@ -1,8 +1,8 @@
-// Counting the ballots by the candidates who come before another.
+// Counting the ballots by the candidates who come before a candidate.
 //
-// One pass over the ballots notes an entry for each preference. For each candidate some entries are at hand, each at a place that depends
-// on its set: a ballot with the same set is counted there. So few entries are left to sort. An author of a file can make each miss; then
-// all are sorted, as without places at hand.
+// One pass over the ballots notes an entry for each preference. For each candidate, some entries are kept ready, each at a place
+// that depends on its set, and a ballot with the same set is counted there. So few entries are left to sort. The author of a file
+// can make every lookup miss; then all are sorted, as they would be without entries kept ready.
 ghost use Rattle.std.specs.Prelude.{◌≡◌, ◌≤◌, ◌<◌, [], All, IsTrue, length, map, replicate, IfOk, OnOk};
 ghost use Rattle.irv_base.specs.Candidates.{is_distinct};
 ghost use Rattle.irv_base.specs.declared.limits.TheConstants.{ROOM, MOST_RECORDS};
@@ -14,13 +14,13 @@ use crate::entry::Entry;
 use irv_base::{Candidate, MOST_RECORDS, Memory, Rankings};
 use std::alloc::Global;
 
-// For each candidate two to this power entries are at hand.
+// For each candidate, two to this power entries are kept ready.
 const HAND_BITS: u32 = 8;
 
-// Sets that are numbers apart by little come to places far apart by it: it is 2 ^ 32 by the golden ratio.
+// This spreads numbers of sets that differ by little to places far apart: it is 2 ^ 32 divided by the golden ratio.
 const SPREAD: u32 = 0x9E37_79B1;
 
-// No entries, for each of `n` candidates.
+// An empty list of entries for each of `n` candidates.
 fn none(alloc: Global, n: u32) -> Result<Vec<Vec<Entry>>, Memory>
     ensures { IfOk result (λ lists. map (λ v. v.items) lists.items ≡ replicate n []) }
 {
@@ -31,13 +31,13 @@ fn none(alloc: Global, n: u32) -> Result<Vec<Vec<Entry>>, Memory>
     Ok(lists)
 }
 
-// The place at which the entry of this set is at hand, if it is.
+// The place at which the entry of this set is kept ready, if it is.
 fn place_of(before: u32) -> usize {
     (before.wrapping_mul(SPREAD) >> (u32::BITS - HAND_BITS)) as usize
 }
 
-// Counts one more ballot that has exactly this set before the candidate: in the entry at hand if that is of the set, otherwise in a new
-// one, which is at hand from then on.
+// Counts one more ballot that has exactly this set before the candidate: in the entry kept ready, if it is for this set, and
+// otherwise in a new entry, which is kept ready from then on.
 fn put(entries: &mut Vec<Entry>, before: u32) -> Result<(), Memory>
     ensures { OnOk result (HasOneMore before entries.old.items entries.new.items) }
 {
@@ -54,7 +54,7 @@ fn put(entries: &mut Vec<Entry>, before: u32) -> Result<(), Memory>
     Ok(())
 }
 
-// Notes for each candidate of the ranking who comes before it.
+// Notes, for each candidate of the ranking, who comes before it.
 fn note(lists: &mut [Vec<Entry>], n: u32, ranking: &[Candidate]) -> Result<(), Memory>
     requires each { length lists.old ≡ n }
     requires room { n ≤ ROOM }
@@ -71,7 +71,7 @@ fn note(lists: &mut [Vec<Entry>], n: u32, ranking: &[Candidate]) -> Result<(), M
     Ok(())
 }
 
-// An entry for each run of the same set.
+// Makes one entry for each run of the same set.
 fn runs(alloc: Global, entries: &[Entry]) -> Result<Vec<Entry>, Memory>
     requires { total entries.now ≤ MOST_RECORDS }
     ensures { IfOk result (λ runs. SayTheSame entries.now runs.items) }
@@ -93,7 +93,7 @@ fn runs(alloc: Global, entries: &[Entry]) -> Result<Vec<Entry>, Memory>
     Ok(runs)
 }
 
-// One entry for each set that the entries have.
+// Makes one entry for each set that the entries have.
 fn joined(alloc: Global, entries: Vec<Entry>) -> Result<Entries, Memory>
     requires { total entries.items ≤ MOST_RECORDS }
     ensures { IfOk result (λ joined. SayTheSame entries.items joined.items) }
@@ -105,7 +105,7 @@ fn joined(alloc: Global, entries: Vec<Entry>) -> Result<Entries, Memory>
     Ok(joined)
 }
 
-/// One entry for each set that the entries of a candidate have.
+/// Makes one entry for each set that the entries of a candidate have.
 pub fn all_joined(alloc: Global, noted: Vec<Vec<Entry>>) -> Result<Vec<Entries>, Memory>
     requires { All (λ entries. total entries ≤ MOST_RECORDS) (map (λ v. v.items) noted.items) }
     ensures { IfOk result (λ lists. AllSayTheSame
@@ -118,7 +118,7 @@ pub fn all_joined(alloc: Global, noted: Vec<Vec<Entry>>) -> Result<Vec<Entries>,
     Ok(lists)
 }
 
-/// The entries of each of `n` candidates in these rankings, for each set of those who come before the candidate one or more.
+/// The entries of each of `n` candidates in these rankings: one or more for each set of those who come before the candidate.
 pub fn noted(alloc: Global, n: u32, rankings: &Rankings) -> Result<Vec<Vec<Entry>>, Memory>
     requires room { n ≤ ROOM }
     requires below { All (λ ranking. All (λ c. c < n) ranking) rankings.now }

@@ -14,7 +14,7 @@ use std::thread::Threads;
 
 /// The records of a contest, counted: their bag, and the two numbers of NEB's margin over them.
 ///
-/// To a contract it is these two.
+/// In a contract, it is these two.
 #[derive(Drop)]
 pub struct Counted {
     alloc: Global,
@@ -33,7 +33,7 @@ impl Model for Counted {
 }
 
 impl Counted {
-    /// The records, of a contest with `n` candidates, counted by at most this many workers.
+    /// Counts the records of a contest with `n` candidates, with at most this many workers.
     pub fn of<R: AllocGlobal + Threads + Sync>(
         rt: &R,
         n: u32,
@@ -54,7 +54,7 @@ impl Counted {
         Ok(Counted { alloc, bag, ahead })
     }
 
-    /// The records that were counted as they came.
+    /// Takes the records that were counted as they came.
     pub fn of_counting(alloc: Global, counting: &Counting) -> Result<Counted, Memory>
         requires { FEWEST_CANDIDATES ≤ counting.now.n }
         ensures candidates { IfOk result (λ counted. counted.bag.n ≡ counting.now.n) }
@@ -65,8 +65,8 @@ impl Counted {
         Ok(Counted { alloc, bag, ahead })
     }
 
-    /// The tallies of sets of candidates over the records. Once as many rows were counted as are worth it before the sums over all sets are
-    /// made, these are made, for these tallies alone.
+    /// The tallies of sets of candidates over the records. Once as many rows have been counted as are worth counting before the
+    /// sums over all sets are made, the sums are made, for these tallies only.
     pub fn tallies(&self) -> Result<Tallies<'_>, Memory>
         ensures bag { IfOk result (λ tallies. tallies.bag ≡ self.now.bag) }
         ensures counts { IfOk result (λ tallies. tallies.counts ≡ self.now.counts) }
@@ -74,8 +74,9 @@ impl Counted {
         Tallies::new(self.alloc, &self.bag, &self.ahead, true)
     }
 
-    /// The tallies for one of several workers. Once it has counted as many rows as pay before the sums over all sets are made, it ends as
-    /// for want of memory. Then the caller has the workers begin again with what is `summed`, and the sums are made once for all.
+    /// The tallies for one of several workers. Once it has counted as many rows as pay before the sums over all sets are made, it
+    /// ends as if memory had run out. The caller then has the workers begin again with what `summed` returns, and the sums are made
+    /// once for all of them.
     pub fn tallies_for_worker(&self) -> Result<Tallies<'_>, Memory>
         ensures bag { IfOk result (λ tallies. tallies.bag ≡ self.now.bag) }
         ensures counts { IfOk result (λ tallies. tallies.counts ≡ self.now.counts) }
@@ -83,7 +84,7 @@ impl Counted {
         Tallies::new(self.alloc, &self.bag, &self.ahead, false)
     }
 
-    /// The same records with the sums over all sets, if they have none and there are few enough candidates for them.
+    /// Returns the same records with the sums over all sets, if they have no sums yet and there are few enough candidates for them.
     pub fn summed(&self) -> Result<Option<Counted>, Memory>
         ensures { IfOk result (λ summed. IfSome summed (λ counted. counted.bag ≡ self.now.bag)) }
     {

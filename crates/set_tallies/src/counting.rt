@@ -13,10 +13,10 @@ use std::alloc::Global;
 use std::marker::Model;
 use std::snapshot::Snapshot;
 
-/// The rankings of ballots, each counted as it comes, in a table with a number for each set of candidates and each candidate. No ranking
-/// is kept.
+/// The rankings of ballots, each counted as it comes, in a table with a number for each set of candidates and each candidate. No
+/// ranking is kept.
 ///
-/// To a contract it is how many candidates there are, and the list of the rankings.
+/// In a contract, it is the number of candidates and the list of the rankings.
 #[derive(Drop)]
 pub struct Counting {
     n: u32,
@@ -39,7 +39,7 @@ impl Model for Counting {
 }
 
 impl Counting {
-    /// No rankings, of `n` candidates.
+    /// Starts a counting of rankings of `n` candidates, with no rankings yet.
     pub fn nothing(alloc: Global, n: u32) -> Result<Counting, Memory>
         requires { n ≤ ALWAYS_SUMMED }
         ensures candidates { IfOk result (λ none. none.n ≡ n) }
@@ -54,7 +54,7 @@ impl Counting {
         })
     }
 
-    /// How many candidates there are.
+    /// The number of candidates.
     pub fn candidates(&self) -> u32
         ensures same { result ≡ self.now.n }
         ensures few { result ≤ ALWAYS_SUMMED }
@@ -63,7 +63,7 @@ impl Counting {
         self.n
     }
 
-    /// How many rankings there are.
+    /// The number of rankings.
     pub fn len(&self) -> usize
         ensures all { result ≡ length self.now.rankings }
         ensures most { result ≤ MOST_RECORDS }
@@ -71,7 +71,7 @@ impl Counting {
         self.records as usize
     }
 
-    /// Puts a ranking without candidates last. For more than `MOST_RECORDS` the answer is `Memory`.
+    /// Appends a ranking without candidates. If there would be more than `MOST_RECORDS`, the answer is `Memory`.
     pub fn begin(&mut self) -> Result<(), Memory>
         ensures candidates { self.new.n ≡ self.old.n }
         ensures begun { OnOk result (self.new.rankings ≡ self.old.rankings ++ [] ∷ []) }
@@ -86,7 +86,7 @@ impl Counting {
         Ok(())
     }
 
-    /// Puts a candidate who isn't in the last ranking at its end.
+    /// Appends a candidate who isn't in the last ranking to that ranking.
     pub fn lengthen(&mut self, c: Candidate)
         requires below { c < self.now.n }
         requires last { (earlier : List (List ℕ)) × (last : List ℕ)
@@ -101,7 +101,8 @@ impl Counting {
         course::lengthen(&mut self.course, c);
     }
 
-    /// Puts other rankings of the same candidates last, in their order. For more than `MOST_RECORDS` in all the answer is `Memory`.
+    /// Appends other rankings of the same candidates, in order. If there would be more than `MOST_RECORDS` in all, the answer is
+    /// `Memory`.
     pub fn append(&mut self, others: &Counting) -> Result<(), Memory>
         requires { others.now.n ≡ self.now.n }
         ensures candidates { self.new.n ≡ self.old.n }
@@ -122,7 +123,7 @@ impl Counting {
         Ok(())
     }
 
-    // How many rankings have just a set before a candidate.
+    // The number of rankings that have exactly a given set before a candidate, for each set and candidate.
     pub(crate) fn table(&self) -> &[u32]
         ensures counts { IsCountOf self.now.n self.now.rankings result.now }
         ensures most { length self.now.rankings ≤ MOST_RECORDS }

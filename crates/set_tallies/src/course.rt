@@ -1,4 +1,4 @@
-// How rankings came, one after the other, for clauses alone: at run time it takes no room and no time.
+// How rankings were added, one by one. Only clauses use this: at run time it takes no space and no time.
 ghost use Rattle.std.specs.Prelude.{◌≡◌, ◌++◌, ◌∷◌, []};
 ghost use Rattle.set_tallies.specs.Countings.{lengthened, rankings_by};
 
@@ -6,41 +6,41 @@ use irv_base::Candidate;
 use std::mem;
 use std::snapshot::Snapshot;
 
-/// How rankings came.
+/// How rankings were added.
 #[derive(Drop)]
 pub enum Course {
     /// There are none.
     Nothing,
-    /// An empty ranking came last.
+    /// An empty ranking was added last.
     Begun(Snapshot<Course>),
-    /// A candidate came at the end of the last ranking.
+    /// A candidate was added at the end of the last ranking.
     Lengthened(Snapshot<Course>, Candidate),
-    /// Others came after them, by a course of their own.
+    /// Others were added after them, by a course of their own.
     Appended(Snapshot<Course>, Snapshot<Snapshot<Course>>),
 }
 
-// What a course was, with nothing left in its place.
+// Returns what a course was, and leaves nothing in its place.
 fn taken(course: &mut Snapshot<Course>) -> Snapshot<Course>
     ensures { result ≡ course.old }
 {
     mem::replace(course, Snapshot::of(&Course::Nothing))
 }
 
-/// An empty ranking comes last.
+/// Adds an empty ranking last.
 pub fn begin(course: &mut Snapshot<Course>)
     ensures { rankings_by course.new.value ≡ rankings_by course.old.value ++ [] ∷ [] }
 {
     *course = Snapshot::of(&Course::Begun(taken(course)));
 }
 
-/// A candidate comes at the end of the last ranking.
+/// Adds a candidate at the end of the last ranking.
 pub fn lengthen(course: &mut Snapshot<Course>, c: Candidate)
     ensures { rankings_by course.new.value ≡ lengthened (rankings_by course.old.value) c }
 {
     *course = Snapshot::of(&Course::Lengthened(taken(course), c));
 }
 
-/// Others come after them.
+/// Adds others after them.
 pub fn append(course: &mut Snapshot<Course>, others: &Snapshot<Course>)
     ensures { rankings_by course.new.value
         ≡ rankings_by course.old.value ++ rankings_by others.now.value }

@@ -1,6 +1,6 @@
-// The entries of a candidate, their sets and their numbers in two lists, so that several are looked at side by side.
+// The entries of a candidate. Their sets and their numbers are in two lists, so that several can be looked at side by side.
 //
-// A loop over pairs with a test in it takes three to five times as long, since the compiler makes no vectors of it.
+// A loop over pairs with a test in it takes three to five times as long, since the compiler doesn't vectorize it.
 ghost use Rattle.std.specs.Prelude.{◌≡◌, ◌≤◌, ◌<◌, length, get_or, IfOk};
 ghost use Rattle.irv_base.specs.declared.limits.TheConstants.{MOST_RECORDS};
 ghost use Rattle.set_tallies.specs.Bags.{missing, total};
@@ -11,7 +11,7 @@ use irv_base::Memory;
 use std::alloc::Global;
 use std::marker::Model;
 
-/// The entries of a candidate. To a contract they are a list.
+/// The entries of a candidate. In a contract, they are a list.
 #[derive(Drop)]
 pub struct Entries {
     sets: Vec<u32>,
@@ -30,7 +30,7 @@ impl Model for Entries {
 }
 
 impl Entries {
-    /// These entries.
+    /// Stores these entries.
     pub fn of(alloc: Global, list: &[Entry]) -> Result<Entries, Memory>
         ensures { IfOk result (λ entries. entries.items ≡ list.now) }
     {
@@ -43,7 +43,7 @@ impl Entries {
         Ok(Entries { sets, counts })
     }
 
-    /// How many there are.
+    /// The number of entries.
     pub fn len(&self) -> usize
         ensures { result ≡ length self.now.items }
     {
@@ -61,7 +61,7 @@ impl Entries {
         }
     }
 
-    /// On how many ballots the candidate has nobody of the set before it.
+    /// The number of ballots on which the candidate has nobody of the set before it.
     pub fn missing(&self, set: u32) -> u32
         requires { total self.now.items ≤ MOST_RECORDS }
         ensures { result ≡ missing set self.now.items }

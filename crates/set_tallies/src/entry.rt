@@ -1,10 +1,10 @@
-// What is kept of the records of a contest, for one candidate.
+// What a bag keeps of the records of a contest, for one candidate.
 
-/// A set of candidates, and on how many ballots exactly these come before the candidate.
+/// A set of candidates, and the number of ballots on which exactly these come before the candidate.
 #[derive(Clone, Copy)]
 pub struct Entry {
     /// The number of the set.
     pub before: u32,
-    /// On how many ballots exactly its candidates come before the one.
+    /// The number of ballots on which exactly the candidates of the set come before the candidate.
     pub count: u32,
 }

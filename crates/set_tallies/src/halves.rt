@@ -1,4 +1,4 @@
-// The sums over all sets in a quarter of the room: a set and its complement share a row, of numbers of 16 bits.
+// The sums over all sets in a quarter of the space: a set and its complement share a row, and the numbers have 16 bits.
 ghost use Rattle.std.specs.Prelude.{◌≡◌, ℕ, ◌<◌, ◌≤◌, ◌+◌, ◌*◌, ◌-◌, ◌/◌, ◌^◌, ◌==◌, ◌&&◌, false, [], All, IfOk, IsTrue, length, slice_index, get_or, map, replicate, if◌then◌else◌};
 ghost use Rattle.irv_base.specs.declared.limits.TheConstants.{MOST_RECORDS};
 ghost use Rattle.set_tallies.specs.Bags.{AreEntries, misses, missing, total};
@@ -12,21 +12,22 @@ use crate::table::place;
 use irv_base::{CandSet, Candidate, Memory};
 use std::alloc::Global;
 
-/// The sums are halved if no candidate is on more ballots than this: 16 bits count no more.
+/// The sums are halved if no candidate is on more ballots than this. 16 bits can't count further.
 pub const MOST_HALVED: u32 = 65_535;
 
-/// The sums over the sets of the first candidates, this many, are made while entries are counted. Then those of the others are made for
-/// sixteen numbers at a time.
+/// The sums over the sets of the first candidates, this many of them, are made while entries are counted. Then those over the sets
+/// of the others are made, sixteen numbers at a time.
 pub const LOW_CANDIDATES: u32 = 4;
 
-// This many sets these have.
+// The number of sets of these candidates.
 const LOW_SETS: u32 = 16;
 
-/// For each set of `n` candidates without the last, and each candidate: how many ballots have the candidate with nobody before who is in
-/// the set, if the candidate is in it, and otherwise in the set's complement. The numbers of a row are next to each other.
+/// For each set of `n` candidates without the last, and each candidate, the number of ballots that have the candidate with nobody
+/// before it who is in the set, if the candidate is in the set, and otherwise with nobody before it who is in the set's complement.
+/// The numbers of a row are next to each other.
 #[derive(Drop)]
 pub struct Halves {
-    /// How many candidates there are.
+    /// The number of candidates.
     pub n: u32,
     /// The numbers, set by set.
     pub table: Vec<u16>,
@@ -41,7 +42,7 @@ fn others(n: u32, set: u32) -> u32
     (1 << n) - 1 - set
 }
 
-// The row of a set, which is that of its complement too.
+// The row of a set, which is also the row of its complement.
 fn row_of(n: u32, set: u32) -> u32
     requires few { (1 ≤ n) × (n ≤ MOST_SUMMED) }
     requires below { set < 2 ^ n }
@@ -54,7 +55,7 @@ fn row_of(n: u32, set: u32) -> u32
     }
 }
 
-// The one of a row's two sets that has the candidate.
+// The set that has the candidate, of a row's two sets.
 fn having(n: u32, row: u32, c: Candidate) -> u32
     requires few { n ≤ MOST_SUMMED }
     requires below { row < 2 ^ n }
@@ -68,7 +69,8 @@ fn having(n: u32, row: u32, c: Candidate) -> u32
     }
 }
 
-// Counts this many ballots that have exactly this set before the candidate, for each set of the first candidates that has nobody of it.
+// Counts this many ballots that have exactly this set before the candidate, for each set of the first candidates that has nobody of
+// it.
 fn count_low(numbers: &mut [u32], n: u32, before: u32, count: u32)
     requires few { (LOW_CANDIDATES ≤ n) × (n ≤ MOST_SUMMED) }
     requires long { length numbers.old ≡ 2 ^ n }
@@ -105,7 +107,7 @@ fn count_entries(numbers: &mut [u32], n: u32, entries: &Entries)
     }
 }
 
-// Turns zeros into the number of those ballots of the entries that have nobody of a set before, for each set.
+// Turns zeros into the number, for each set, of those ballots of the entries that have nobody of the set before the candidate.
 fn sum_entries(numbers: &mut [u32], n: u32, entries: &Entries)
     requires few { (LOW_CANDIDATES ≤ n) × (n ≤ MOST_SUMMED) }
     requires zeros { numbers.old ≡ replicate (2 ^ n) 0 }
@@ -117,7 +119,7 @@ fn sum_entries(numbers: &mut [u32], n: u32, entries: &Entries)
     sum_apart(numbers, LOW_SETS, n - LOW_CANDIDATES);
 }
 
-// The numbers of those ballots of the entries that have nobody of a set before, for each set.
+// For each set, the number of those ballots of the entries that have nobody of the set before the candidate.
 fn sums(alloc: Global, n: u32, entries: &Entries) -> Result<Vec<u32>, Memory>
     requires few { (LOW_CANDIDATES ≤ n) × (n ≤ MOST_SUMMED) }
     requires most { total entries.now.items ≤ MOST_RECORDS }
@@ -130,7 +132,7 @@ fn sums(alloc: Global, n: u32, entries: &Entries) -> Result<Vec<u32>, Memory>
     Ok(numbers)
 }
 
-// Puts the numbers of a candidate to its places.
+// Puts the numbers of a candidate in their places.
 fn put(table: &mut [u16], n: u32, c: Candidate, numbers: &[u32])
     requires few { (1 ≤ n) × (n ≤ MOST_SUMMED) }
     requires candidate { c < n }
@@ -163,7 +165,7 @@ pub fn can_be_halved(lists: &[Entries]) -> bool
 }
 
 impl Halves {
-    /// The sums over the ballots that the entries of each candidate count.
+    /// Computes the sums over the ballots that the entries of each candidate count.
     pub fn of_entries(alloc: Global, n: u32, lists: &[Entries]) -> Result<Halves, Memory>
         requires few { (LOW_CANDIDATES ≤ n) × (n ≤ MOST_SUMMED) }
         requires entries { AreEntries n MOST_HALVED (map (λ v. v.items) lists.now) }
@@ -179,7 +181,7 @@ impl Halves {
         Ok(Halves { n, table })
     }
 
-    /// How many ballots have `c` with nobody of the set with this number before.
+    /// The number of ballots that have `c` with nobody of the set with this number before it.
     pub fn at(&self, c: Candidate, set: u32) -> u32
         requires table { IsHalved self.now.n self.now }
         requires candidate { c < self.now.n }
@@ -190,7 +192,7 @@ impl Halves {
         u32::from(self.table[place(self.n, row, c)])
     }
 
-    /// The tallies of a set, one for each candidate, 0 for those outside.
+    /// The tallies of a set: one for each candidate, 0 for those outside the set.
     pub fn row(&self, alloc: Global, s: CandSet) -> Result<Vec<u32>, Memory>
         requires table { IsHalved self.now.n self.now }
         requires below { s < 2 ^ self.now.n }

@@ -1,4 +1,4 @@
-// Entries side by side: on how many ballots a candidate has nobody of a set before it.
+// Entries side by side: the number of ballots on which a candidate has nobody of a set before it.
 ghost use Rattle.std.specs.Prelude.{◌≡◌, ◌≤◌, ◌*◌, length, take, if◌then◌else◌};
 ghost use Rattle.std.specs.Simd.Lanes.{zip2};
 ghost use Rattle.irv_base.specs.declared.limits.TheConstants.{MOST_RECORDS};
@@ -7,7 +7,7 @@ ghost use Rattle.set_tallies.specs.Listings.{paired};
 
 use std::simd::prelude::*;
 
-/// This many entries are looked at at once.
+/// The number of entries that are processed at once.
 pub const LANES: usize = 8;
 
 // The numbers of those entries that have nobody of the set, and 0 for the others.
@@ -21,7 +21,7 @@ fn counts_missing(sets: u32x8, counts: u32x8, set: u32) -> u32x8
         .select(counts, u32x8::splat(0))
 }
 
-// On how many ballots of the first `blocks * LANES` entries nobody of the set comes before.
+// The number of ballots of the first `blocks * LANES` entries on which nobody of the set comes before the candidate.
 #[inline(always)]
 fn missing_in_blocks(sets: &[u32], counts: &[u32], set: u32, blocks: usize) -> u32
     requires same { length counts.now ≡ length sets.now }
@@ -41,7 +41,7 @@ fn missing_in_blocks(sets: &[u32], counts: &[u32], set: u32, blocks: usize) -> u
     votes.strict_reduce_sum()
 }
 
-/// On how many ballots of the entries with these sets and numbers nobody of the set comes before.
+/// The number of ballots of the entries with these sets and numbers on which nobody of the set comes before the candidate.
 pub fn missing(sets: &[u32], counts: &[u32], set: u32) -> u32
     requires same { length counts.now ≡ length sets.now }
     requires most { total (paired sets.now counts.now) ≤ MOST_RECORDS }

@@ -13,7 +13,7 @@ pub fn order_is_free()
     ensures { OrderIsFree }
 {}
 
-/// The numbers of the limits.
+/// The values of the limits.
 pub fn limits()
     ensures rows { MOST_ROWS ≡ 262143 }
     ensures summed { MOST_SUMMED ≡ 20 }

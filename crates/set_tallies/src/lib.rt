@@ -1,5 +1,5 @@
-//! The records of a contest, counted: the tallies of each set of candidates, and the two numbers of NEB's margin.
-//! Rows of tallies that were counted are kept, for a set that is asked for again.
+//! The records of a contest, counted: the tallies of each set of candidates, and the two numbers of NEB's margin. Rows of tallies
+//! that were counted are kept, in case their set is requested again.
 #![tactic(auto)]
 
 mod ahead;

@@ -1,7 +1,8 @@
 // The rows of tallies that are kept.
 //
-// When there are too many rows all of them are dropped: dropping the oldest would need an order that nothing else uses. The rows are in the order of
-// their sets, since the author of an assertion file chooses the sets that are asked for, and could make hashes of them collide.
+// When there are too many rows, all of them are dropped: dropping the oldest would need an order that nothing else uses. The rows
+// are in the order of their sets rather than hashed, since the author of an assertion file chooses the sets that are requested, and
+// could make their hashes collide.
 ghost use Rattle.std.specs.Prelude.{◌≡◌, IfSome, OnErr};
 ghost use Rattle.set_tallies.specs.Bags.{Kept};
 ghost use Rattle.set_tallies.specs.Rows.{AreFew, AreRows, votes_of};
@@ -10,10 +11,10 @@ use irv_base::Memory;
 use std::alloc::Global;
 use std::collections::BTreeMap;
 
-/// The most rows that are kept.
+/// The maximum number of rows that are kept.
 pub const MOST_ROWS: usize = 262_143;
 
-/// The rows that are kept, each under the number of its set: one number for each candidate.
+/// The rows that are kept, each under the number of its set. A row has one number for each candidate.
 #[derive(Drop)]
 pub struct Rows {
     /// The row of each set.
@@ -21,7 +22,7 @@ pub struct Rows {
 }
 
 impl Rows {
-    /// No rows.
+    /// Starts without rows.
     pub fn new(alloc: Global) -> Rows
         ensures few { AreFew result }
         ensures rows { (bag : Kept) → AreRows bag result }
@@ -42,7 +43,7 @@ impl Rows {
         }
     }
 
-    /// Keeps the row of a set. If there are as many as are ever kept, they are dropped first.
+    /// Keeps the row of a set. If the maximum number of rows is already kept, all of them are dropped first.
     pub fn keep(&mut self, set: u32, votes: Vec<u32>) -> Result<(), Memory>
         requires { AreFew self.old }
         ensures few { AreFew self.new }

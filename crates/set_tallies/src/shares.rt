@@ -1,4 +1,4 @@
-// Counting ballots, each worker a share of them in a table of its own.
+// Counting ballots: each worker counts a share of them, in a table of its own.
 ghost use Rattle.std.specs.Prelude.{◌≡◌, ◌<◌, ◌≤◌, ◌*◌, All, IfOk, length};
 ghost use Rattle.std.specs.Fork.{slice_chunk};
 ghost use Rattle.irv_base.specs.declared.limits.TheConstants.{MOST_RECORDS};
@@ -12,11 +12,11 @@ use std::alloc::Global;
 use std::thread;
 use std::thread::Threads;
 
-/// Fewer records are counted sooner than a thread is started for them.
+/// Counting fewer records than this takes less time than starting a thread for them.
 pub const FEWEST_IN_A_SHARE: usize = 4096;
 
-// How many records each worker counts, except the last, who has those that are left. They are no fewer than the sets of candidates: a
-// table of its own takes as long to be made and added up as this many records take to count.
+// The number of records that each worker counts, except the last, who counts those that are left. It is no smaller than the number
+// of sets of candidates: making a worker's own table and adding it up takes as long as counting this many records.
 fn share_size(n: u32, records: usize, workers: u32) -> usize
     requires few { n ≤ MOST_SUMMED }
     requires workers { 1 ≤ workers }
@@ -29,8 +29,8 @@ fn share_size(n: u32, records: usize, workers: u32) -> usize
         .max(1 << n)
 }
 
-// The share with number `i` of the ballots with these rankings, counted by one worker. Each share has `size` of them, and the last those
-// that are left.
+// The share with number `i` of the ballots with these rankings, counted by one worker. Each share has `size` of them, and the last
+// share has those that are left.
 fn share_of(
     alloc: Global,
     n: u32,
@@ -81,7 +81,7 @@ fn shares<R: AllocGlobal + Threads + Sync>(
     Ok(shares)
 }
 
-/// The ballots with these rankings, counted by at most this many workers.
+/// Counts the ballots with these rankings, with at most this many workers.
 pub fn counted<R: AllocGlobal + Threads + Sync>(
     rt: &R,
     n: u32,

@@ -1,4 +1,4 @@
-// How many ballots have a candidate with nobody of a set before, for all sets and candidates at once.
+// The number of ballots that have a candidate with nobody of a set before it, for all sets and candidates at once.
 ghost use Rattle.std.specs.Prelude.{◌≡◌, ℕ, ◌<◌, ◌≤◌, ◌+◌, ◌*◌, ◌-◌, ◌^◌, ◌==◌, ◌&&◌, true, [], All, IfOk, length, slice_index, get_or, map, count_by, if◌then◌else◌};
 ghost use Rattle.irv_base.specs.Candidates.{candidates};
 ghost use Rattle.irv_base.specs.declared.limits.TheConstants.{MOST_RECORDS};
@@ -14,20 +14,20 @@ use irv_base::{Candidate, Memory, Rankings};
 use std::alloc::Global;
 use std::thread::Threads;
 
-/// The most candidates for whom the sums over all sets are made.
+/// The maximum number of candidates for whom the sums over all sets are made.
 pub const MOST_SUMMED: u32 = 20;
 
-/// A number for each set of `n` candidates and each candidate, the candidates side by side: how many ballots have the
-/// candidate with nobody of the set before.
+/// A number for each set of `n` candidates and each candidate, with the candidates side by side: the number of ballots that have
+/// the candidate with nobody of the set before it.
 #[derive(Drop)]
 pub struct Sums {
-    /// How many candidates there are.
+    /// The number of candidates.
     pub n: u32,
     /// The numbers, set by set.
     pub table: Vec<u32>,
 }
 
-// Puts the sums of the two halves in place of the one, and what the one had in place of the other.
+// Puts the sums of the two halves in place of the first half, and what the first half had in place of the second.
 fn add_halves(without: &mut [u32], having: &mut [u32])
     requires same { length without.old ≡ length having.old }
     requires fit { (i : ℕ) → i < length without.old
@@ -44,7 +44,7 @@ fn add_halves(without: &mut [u32], having: &mut [u32])
     }
 }
 
-/// Turns the numbers of the sets of the first `k` candidates into their sums over the sets that have nobody of a set, for each of
+/// Turns the numbers for the sets of the first `k` candidates into their sums over the sets that have nobody of a set, for each of
 /// `n` candidates.
 pub fn sum_apart(table: &mut [u32], n: u32, k: u32)
     requires some { 1 ≤ n }
@@ -64,7 +64,7 @@ pub fn sum_apart(table: &mut [u32], n: u32, k: u32)
 }
 
 impl Sums {
-    /// The sums over the ballots with these rankings, counted by at most this many workers.
+    /// Computes the sums over the ballots with these rankings, counted by at most this many workers.
     pub fn of<R: AllocGlobal + Threads + Sync>(
         rt: &R,
         n: u32,
@@ -85,7 +85,7 @@ impl Sums {
         Ok(Sums { n, table })
     }
 
-    /// The sums over the ballots that were counted as they came.
+    /// Computes the sums over the ballots that were counted as they came.
     pub fn of_counting(alloc: Global, counting: &Counting) -> Result<Sums, Memory>
         requires { 1 ≤ counting.now.n }
         ensures table { IfOk result (IsSummed counting.now.n) }
@@ -99,7 +99,7 @@ impl Sums {
         Ok(Sums { n, table })
     }
 
-    /// The sums over the ballots that the entries of each candidate count.
+    /// Computes the sums over the ballots that the entries of each candidate count.
     pub fn of_entries(alloc: Global, n: u32, lists: &[Entries]) -> Result<Sums, Memory>
         requires some { 1 ≤ n }
         requires few { n ≤ MOST_SUMMED }
@@ -113,7 +113,7 @@ impl Sums {
         Ok(Sums { n, table })
     }
 
-    /// How many ballots have `c` with nobody of the set with this number before.
+    /// The number of ballots that have `c` with nobody of the set with this number before it.
     pub fn at(&self, c: Candidate, set: u32) -> u32
         requires table { IsSummed self.now.n self.now }
         requires candidate { c < self.now.n }

@@ -1,4 +1,5 @@
-// A table with a number for each set of candidates and each candidate: how many ballots have just that set before the candidate.
+// A table with a number for each set of candidates and each candidate: the number of ballots that have exactly that set before the
+// candidate.
 ghost use Rattle.std.specs.Prelude.{◌≡◌, ℕ, ◌<◌, ◌≤◌, ◌+◌, ◌*◌, ◌^◌, ◌==◌, ◌&&◌, [], All, IfOk, IsTrue, length, slice_index, get_or, map, if◌then◌else◌};
 ghost use Rattle.irv_base.specs.Candidates.{candidates, is_distinct};
 ghost use Rattle.irv_base.specs.declared.limits.TheConstants.{MOST_RECORDS};
@@ -21,7 +22,7 @@ pub fn zeros(alloc: Global, n: u32) -> Result<Vec<u32>, Memory>
     Ok(vec![in alloc; 0; (n as usize) << n]?)
 }
 
-/// The place of the number of the set and the candidate.
+/// The place of the number for the set and the candidate.
 pub fn place(n: u32, set: u32, c: Candidate) -> usize
     requires { n ≤ MOST_SUMMED }
     ensures { result ≡ set * n + c }
@@ -61,7 +62,7 @@ pub fn count(table: &mut [u32], n: u32, ranking: &[Candidate])
     }
 }
 
-// Counts the ballots of the entries of a candidate. Of their sets the first `n` candidates count: there are no others.
+// Counts the ballots of the entries of a candidate. Only the first `n` candidates of their sets count: there are no others.
 fn count_entries(table: &mut [u32], n: u32, c: Candidate, entries: &Entries)
     requires few { n ≤ MOST_SUMMED }
     requires long { length table.old ≡ n * 2 ^ n }
@@ -77,7 +78,7 @@ fn count_entries(table: &mut [u32], n: u32, c: Candidate, entries: &Entries)
     }
 }
 
-/// A table of the ballots that the entries of each candidate count.
+/// Makes a table of the ballots that the entries of each candidate count.
 pub fn table_of(alloc: Global, n: u32, lists: &[Entries]) -> Result<Vec<u32>, Memory>
     requires few { n ≤ MOST_SUMMED }
     requires entries { AreEntries n MOST_RECORDS (map (λ v. v.items) lists.now) }

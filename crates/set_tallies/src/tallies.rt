@@ -19,19 +19,19 @@ use std::marker::Model;
 
 /// The tallies of the sets of candidates, over the records of a bag.
 ///
-/// If the bag has the sums over all sets, rows are read from them. Otherwise a row that was counted is kept (`Rows` drops all at
-/// `MOST_ROWS`). Once as many were counted as pay (`rows_in_time`), the sums are made, or the tallies give up.
+/// If the bag has the sums over all sets, rows are read from them. Otherwise, a row that was counted is kept (`Rows` drops all of
+/// them at `MOST_ROWS`). Once as many rows have been counted as pay (`rows_in_time`), the sums are made, or the tallies give up.
 ///
-/// To a contract the tallies are what they are made from, the bag and the two numbers of NEB's margin.
+/// In a contract, the tallies are what they are computed from: the bag and the two numbers of NEB's margin.
 #[derive(Drop)]
 pub struct Tallies<'b> {
     alloc: Global,
     bag: &'b Bag,
     ahead: &'b Ahead,
     rows: Rows,
-    // how many more rows may be counted
+    // the number of rows that may still be counted
     left: u64,
-    // whether sums are made here then
+    // whether sums are made here once no more rows may be counted
     alone: bool,
     // the bag with sums that were made here
     summed: Option<Bag>,
@@ -49,7 +49,7 @@ impl<'b> Model for Tallies<'b> {
         AreTallies t.bag.now t.ahead.now t.summed t.rows };
 }
 
-// The bag, with sums if some were made.
+// The bag, with the sums if some were made.
 fn with_sums<'b>(bag: &'b Bag, summed: &'b Option<Bag>) -> &'b Bag
     requires { IfSome summed.now (λ own. own ≡ bag.now) }
     ensures { result.now ≡ bag.now }
@@ -70,7 +70,7 @@ fn sums_in(bag: &Bag) -> Option<&Sums>
     }
 }
 
-// The sums in halves, if the bag has these.
+// The halved sums, if the bag has these.
 fn halves_in(bag: &Bag) -> Option<&Halves>
     ensures { IfSome result (λ halves. AreHalves bag.now halves.now) }
 {
@@ -80,7 +80,8 @@ fn halves_in(bag: &Bag) -> Option<&Halves>
     }
 }
 
-// How many rows are counted before the sums over all sets are made. If they are made, or can't be, there is no limit.
+// The number of rows that are counted before the sums over all sets are made. If the sums are already made, or can't be made, there
+// is no limit.
 fn rows_before_sums(bag: &Bag) -> u64 {
     match bag.kept() {
         Votes::Listed(lists) if bag.candidates() <= MOST_SUMMED => rows_in_time(
@@ -122,8 +123,9 @@ fn tallied(alloc: Global, n: u32, row: &[u32], s: CandSet) -> Result<Vec<u32>, M
 }
 
 impl<'b> Tallies<'b> {
-    /// The tallies over the records of the bag, which `ahead` was filled from. Once as many rows were counted as pay before the sums over
-    /// all sets are made (`rows_in_time`), tallies that are alone make these, and others give up as for want of memory.
+    /// The tallies over the records of the bag, which `ahead` was filled from. Once as many rows have been counted as pay before
+    /// the sums over all sets are made (`rows_in_time`), tallies that are alone make the sums, and others give up as if memory had
+    /// run out.
     pub fn new(
         alloc: Global,
         bag: &'b Bag,
@@ -145,7 +147,7 @@ impl<'b> Tallies<'b> {
         })
     }
 
-    /// How many candidates there are.
+    /// The number of candidates.
     pub fn candidates(&self) -> u32
         ensures same { result ≡ self.now.bag.n }
         ensures fewest { FEWEST_CANDIDATES ≤ result }
@@ -154,7 +156,7 @@ impl<'b> Tallies<'b> {
         self.bag.candidates()
     }
 
-    /// How many records there are.
+    /// The number of records.
     pub fn records(&self) -> u32
         ensures same { (records : List (List ℕ)) → IsOf self.now.bag records
             → result ≡ length records }
@@ -171,8 +173,8 @@ impl<'b> Tallies<'b> {
         self.ahead
     }
 
-    /// The tallies of the candidates in the set `s`, lent if they are at hand: one number for each candidate. The numbers of those
-    /// outside the set are unknown.
+    /// The tallies of the candidates in the set `s`, lent if they are available: one number for each candidate. The numbers of
+    /// those outside the set are unknown.
     pub fn row(&self, s: CandSet) -> Option<&[u32]>
         requires { s < 2 ^ self.now.bag.n }
         ensures tallies { IfSome result (λ row. (records : List (List ℕ)) → IsOf self.now.bag records
@@ -185,7 +187,7 @@ impl<'b> Tallies<'b> {
         }
     }
 
-    // If no more rows may be counted, tallies that are alone make the sums in place of the rows, and others give up.
+    // If no more rows may be counted, tallies that are alone make the sums instead of the rows, and others give up.
     fn go_on(&mut self) -> Result<(), Memory>
         ensures { self.new ≡ self.old }
     {
@@ -201,7 +203,7 @@ impl<'b> Tallies<'b> {
         Ok(())
     }
 
-    /// The tallies of the candidates in the set `s`, one number for each candidate, 0 for those outside.
+    /// The tallies of the candidates in the set `s`: one number for each candidate, 0 for those outside the set.
     pub fn tally(&mut self, s: CandSet) -> Result<Vec<u32>, Memory>
         requires { s < 2 ^ self.old.bag.n }
         ensures tallies { IfOk result (λ row. (records : List (List ℕ)) → IsOf self.old.bag records

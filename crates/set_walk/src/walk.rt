@@ -28,7 +28,7 @@ pub enum WalkEnd {
 pub enum WalkFault {
     /// More sets count than the budget allows.
     Spent,
-    /// There isn't enough memory.
+    /// Memory could not be allocated.
     Memory,
 }
 
@@ -58,7 +58,7 @@ pub enum Stop {
     Found(Order),
     /// There is one set more than the budget allows.
     Spent,
-    /// There isn't enough memory.
+    /// Memory could not be allocated.
     Memory,
 }
 

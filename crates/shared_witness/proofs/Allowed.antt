@@ -1,4 +1,4 @@
--- Each step on the words keeps the rule, and is told between which moments it was.
+-- Each step on the words keeps the rule, and the code learns between which moments it was.
 use Rattle.std.proofs.Common.{◌≡◌, ◌≢◌, ℕ, zero, suc, ◌+◌, ◌^◌, ◌%◌, ◌≤◌, ◌<◌, min, List, [], ◌∷◌, length, get_or, set, slice_get, Some, refl, sym, ap, ◌∙◌, subst, arith, length-set}
 use mathlib.Core.Option.{some, some-injective, some-ne-none}
 use lib.ListN.{get_elem?}
@@ -56,7 +56,7 @@ module _ (t : Terms) (slots id : ℕ) (me : Me ℕ View) where
         (refl, (m, id, refl, record { held = h.2; holds = kept; had = at'; has = slice_get-set_same s.views id w me.0 at' })),
       )
 
-  -- a step on the bound, which becomes b, and the view w
+  -- a step on the bound, which becomes b, with the view w
   bound_step : (s : State ℕ View) (b : ℕ) (w : View) → length s.words ≡ 2
       → ◌≡◌ {A = Moment} record { ticket = get_or (set s.words 1 b) 0 0; bound = get_or (set s.words 1 b) 1 0; views = set s.views id w }
       record { ticket = get_or s.words 0 0; bound = b; views = set s.views id w }

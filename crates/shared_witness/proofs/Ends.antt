@@ -1,4 +1,4 @@
--- The end of a race: a seat with all ends has all pieces and posts; and what seats have that are joined in turn.
+-- The end of a race: a seat with all ends has all pieces and posts; and what seats that are joined one by one have.
 use Rattle.std.proofs.Common.{◌≡◌, ℕ, zero, suc, ◌+◌, ◌≤◌, min, List, [], ◌∷◌, length, get_or, slice_get, sum_by, All, Some, refl, sym, ap, ◌∙◌, subst, arith}
 use mathlib.Core.Option.{some}
 use lib.ListN.{get_elem?}
@@ -95,7 +95,7 @@ module _ (t : Terms) (fits : AreTerms t) (m : Moment) (k : ℕ) (v : View) (h : 
         let past : min m.ticket t.pieces ≡ t.pieces = omega (arith, full, h.ticket_counts.0) in
         subst (λ n. EachOnce n v.taken) past end_taken
 
--- ---- seats that are joined in turn
+-- ---- seats that are joined one by one
 
 pub joined_taken : (v : View) (vs : List View) → (fold joined v vs).taken ≡ taken_pieces (v ∷ vs)
 joined_taken v [] = sym (append-nil v.taken)
@@ -145,7 +145,7 @@ module _ (t : Terms) (s : State ℕ View) (ns : List ℕ) (k : ℕ) (v : View) (
   pub last_taken : 1 ≤ v.ends → EachOnce t.pieces v.taken
   last_taken some_end = end_all_taken t h.1 (moment_of s) k v h.2 (at_place s.views k v at) all some_end
 
--- ---- the seats of a race, of which the first takes in the others
+-- ---- the seats of a race, the first of which takes in the others
 
 module _ (seats : List Seated) (s : Seated) (rest : List Seated) (v : View) (whole : seats ≡ s ∷ rest) (is : v ≡ s.view) where
   abbrev all_joined : View

@@ -1,4 +1,4 @@
--- Each step is the event of the race that it is named after.
+-- Each step is the event of the race with the same name.
 use Rattle.std.proofs.Common.{◌≡◌, ℕ, zero, suc, ◌+◌, ◌-◌, ◌≤◌, ◌==◌, ◌&&◌, min, not, nat_lt, nat_le, true, false, List, [], ◌∷◌, ◌++◌, length, map, set, replicate, slice_get, slice_index, Option, Some, None, refl, sym, ap, ◌∙◌, arith, inl, inr}
 use Rattle.std.specs.Option.{option_and_then, option_map}
 use Rattle.std.proofs.lemmas.Bool.{cases_lt, lt-ltb, le-ltb, le-leb, eq-eqb, ne_eqb, and_from, cond-true, cond-false}

@@ -34,10 +34,10 @@ takes_piece t old found new piece answers (m, k, is, step) =
     let all : EachOnce t.pieces (taken_pieces m.views) → piece ≡ t.pieces = λ once. let past = finds.1.1 once in omega (arith, past) in
     (m, k, here, fresh, (none, all), step)
 
--- ---- what a take tells of the view of its own seat
+-- ---- what a take says about the view of its own seat
 
 module _ (t : Terms) (old : View) (piece : ℕ) (new : View) where
-  -- the piece is none that the seat took before
+  -- the seat did not take the piece before
   pub fresh_here : TakesPiece t old piece new → piece < t.pieces → times old.taken piece ≡ 0
   unfolding TakesPiece
   fresh_here (m, k, here, fresh, all, step) left =
@@ -47,7 +47,7 @@ module _ (t : Terms) (old : View) (piece : ℕ) (new : View) where
   pub fresh_piece : TakesPiece t old piece new → piece < t.pieces → not (is_in old.taken piece) ≡ true
   fresh_piece takes left = none_in old.taken piece (fresh_here takes left)
 
-  -- it is the seat's now, and open
+  -- the piece now belongs to the seat, and is open
   pub open_piece : TakesPiece t old piece new → new ≡ view_after_take t.pieces piece old → piece < t.pieces →
       (is_in new.taken piece ≡ true) × (not (is_in new.closed piece) ≡ true)
   unfolding TakesPiece

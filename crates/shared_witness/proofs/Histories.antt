@@ -48,7 +48,7 @@ seated_holds t fits =
 
 -- ---- one step
 
--- the view at which the step was made
+-- the view from which the step was made
 seat_of : (o : Option View) (test : View → Bool) (go : View → Moment) (n : Moment) → option_and_then (λ v. cond (test v) (Some (go v)) None) o ≡ Some n →
     (v : View) × (o ≡ Some v) × (test v ≡ true) × (go v ≡ n)
 seat_of None test go n is = cc
@@ -58,7 +58,7 @@ seat_of (Some v) test go n is = elim (cases_Bool (test v)) [
 ]
 
 module _ (t : Terms) (values : List ℕ) (pieces : length values ≡ t.pieces) where
-  -- the rule holds at n, and where the race has the event, n shows the race after it
+  -- the rule holds at n, and if the race has the event, n shows the race after it
   abbrev Follows : Option Race → Moment → Type 0
   Follows o n = RaceRule t n × IfSome o (λ r. r ≡ shown_race values t n)
 

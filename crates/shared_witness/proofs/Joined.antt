@@ -1,4 +1,4 @@
--- What is known of all seats together: whose a piece is, whose the least post is, and what a joining keeps.
+-- What is known about all seats together: who has a piece, who has the smallest post, and what joining keeps.
 use Rattle.std.proofs.Common.{◌≡◌, ◌≢◌, ◌⊎◌, ℕ, suc, ◌+◌, ◌≤◌, ◌<◌, nat_lt, cond, true, List, [], ◌∷◌, set, slice_get, sum_by, Some, inl, inr, refl, sym, ap, ◌∙◌, arith}
 use Rattle.std.proofs.lemmas.Bool.{cases_Bool, cases_lt, lt-ltb}
 use Rattle.std.proofs.lemmas.List.Sums.{sum_by-cons}
@@ -8,7 +8,7 @@ use Rattle.shared_witness.specs.View.{spent_view, joined}
 use Rattle.shared_witness.specs.Moment.{Moment, EachOnce, times, taken_pieces, closed_pieces, all_looks, least_posted, after_join}
 use Rattle.shared_witness.proofs.Lists.{times-append, times_none, sum_set, slice_get-set_other}
 
--- where a piece was taken, some seat took it
+-- if a piece was taken, some seat took it
 holder : (views : List View) (p : ℕ) → 1 ≤ times (taken_pieces views) p → (k : ℕ) × (v : View) × (slice_get views k ≡ Some v) × (is_in v.taken p ≡ true)
 holder [] p some = absurd (omega arith)
 holder (v ∷ vs) p some =
@@ -27,7 +27,7 @@ taker n views once p low =
     let one : ◌≡◌ {A = ℕ} (cond (nat_lt p n) 1 0) 1 = ap (λ b. cond b 1 0) (lt-ltb p n low) in
     holder views p (omega (arith, once p, one))
 
--- the least post is nobody's, or somebody's
+-- the smallest post is nobody's, or somebody's
 pub poster : (first : ℕ) (views : List View) → (least_posted first views ≡ first) ⊎ ((k : ℕ) × (v : View) × (slice_get views k ≡ Some v) ×
     (least_posted first views ≡ v.posted))
 poster first [] = inl refl
@@ -40,13 +40,13 @@ poster first (v ∷ vs) =
       ]
     ]
 
--- ---- what a joining keeps
+-- ---- what joining keeps
 
 module _ (m : Moment) (k : ℕ) (v : View) (i : ℕ) (w : View) (here : slice_get m.views k ≡ Some v) (there : slice_get m.views i ≡ Some w) (apart : i ≢ k) where
   still : slice_get (set m.views k (joined v w)) i ≡ Some w
   still = slice_get-set_other m.views k i (joined v w) apart ∙ there
 
-  -- a sum over the seats, where the receiver gets the sum of both, and nothing is left of the other
+  -- a sum over the seats, if the receiver gets the sum of both, and nothing is left for the other
   kept : (f : View → ℕ) → f (joined v w) ≡ f v + f w → f spent_view ≡ 0 → sum_by f (after_join m k v i w).views ≡ sum_by f m.views
   kept f both none =
       let one = sum_set f m.views k v (joined v w) here in

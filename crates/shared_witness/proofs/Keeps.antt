@@ -100,7 +100,7 @@ none_ended : (taken ended pieces ticket : ℕ) → ticket ≡ taken + ended → 
 none_ended taken zero pieces ticket is all left = refl
 none_ended taken (suc e) pieces ticket is all left = let full : taken ≡ pieces = all (λ none. absurd (omega arith)) in absurd (omega arith)
 
--- all pieces are taken, where the ticket is past them
+-- all pieces are taken if the ticket is past them
 all_taken : (taken ended pieces ticket : ℕ) → ticket ≡ taken + ended → (ended ≢ 0 → taken ≡ pieces) → pieces ≤ ticket → taken ≤ pieces → taken ≡ pieces
 all_taken taken zero pieces ticket is all past most = omega arith
 all_taken taken (suc e) pieces ticket is all past most = all (λ none. absurd (omega arith))
@@ -175,7 +175,7 @@ module _ (t : Terms) (m : Moment) (k : ℕ) (v : View) (h : RaceRule t m) (at : 
       cond_both (nat_lt m.ticket t.pieces) _ _ (λ w. RaceRule t record { ticket = m.ticket + 1; bound = m.bound; views = set m.views k w })
       (λ left. took (ltb-true m.ticket t.pieces left)) (λ past. found_none (ltb-false m.ticket t.pieces past))
 
--- ---- a race that is made, and a seat that is split
+-- ---- a race that is created, and a seat that is split
 
 module _ (t : Terms) (fits : AreTerms t) where
   pub opening_keeps : 1 ≤ t.workers → RaceRule t (opening t)

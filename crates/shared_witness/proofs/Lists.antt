@@ -1,4 +1,4 @@
--- Sums and the least post over the views, when one view changes, is added or is spent.
+-- Sums and the smallest post over the views, when one view changes, is added or is spent.
 use Rattle.std.proofs.Common.{◌≡◌, ◌≢◌, ℕ, zero, suc, ◌+◌, ◌≤◌, ◌<◌, ◌==◌, min, nat_lt, true, false, not, cond, inl, inr, List, [], ◌∷◌, ◌++◌, length, get_or, set, slice_get, sum_by, count_by, All, Some, refl, sym, ap, ◌∙◌, subst, arith, length-append}
 use Rattle.std.proofs.lemmas.Bool.{or_parts, or_cases, cases_lt, lt-ltb, le-ltb, eq-eqb, cases_Bool, not_from_false}
 use Rattle.std.proofs.lemmas.List.Folds.{list_any_at}
@@ -60,7 +60,7 @@ times-append xs ys p = sum_by-append (λ q. cond (q == p) 1 0) xs ys
 pub times-push : (xs : List ℕ) (n p : ℕ) → times (xs ++ n ∷ []) p ≡ times xs p + cond (n == p) 1 0
 times-push xs n p = sum_by_push (λ q. cond (q == p) 1 0) xs n
 
--- ---- the least post
+-- ---- the smallest post
 
 pub least-set : (first : ℕ) (vs : List View) (k : ℕ) (v w : View) → slice_get vs k ≡ Some v → w.posted ≤ v.posted →
     least_posted first (set vs k w) ≡ min w.posted (least_posted first vs)
@@ -81,7 +81,7 @@ pub least-push : (first : ℕ) (vs : List View) (w : View) → least_posted firs
 least-push first [] w = refl
 least-push first (v ∷ vs) w = let h = least-push first vs w in omega (arith, h)
 
--- where one post is lifted to the top, the others are left
+-- if one post is lifted to the maximum, the others are left
 pub least-lift : (first : ℕ) (vs : List View) (k : ℕ) (v w : View) → first ≤ highest → w.posted ≡ highest → slice_get vs k ≡ Some v →
     least_posted first vs ≡ min v.posted (least_posted first (set vs k w))
 least-lift first [] k v w low top at = cc
@@ -89,7 +89,7 @@ least-lift first (u ∷ us) zero v w low top at = let same : u ≡ v = cc in let
     least-first first us in omega (arith, h)
 least-lift first (u ∷ us) (suc k) v w low top at = let h = least-lift first us k v w low top at in omega (arith, h)
 
--- ---- how often a piece stands in a list
+-- ---- how often a piece appears in a list
 
 pub times_none : (xs : List ℕ) (p : ℕ) → is_in xs p ≡ false → times xs p ≡ 0
 times_none [] p none = refl
@@ -171,7 +171,7 @@ module _ (n : ℕ) (xs : List ℕ) (once : EachOnce n xs) where
   pub length_of_once : length xs ≡ n
   length_of_once = sym (below_all n xs each_below) ∙ counted_below n (omega arith)
 
--- what stands in the middle of a list
+-- the element in the middle of a list
 pub All-middle : {A : Type 0} (P : A → Type 0) (xs : List A) (x : A) (ys : List A) → All P (xs ++ x ∷ ys) → P x
 All-middle P xs x ys all = subst P (get_or_at xs x ys x (length xs) refl)
     (All-get_or P (xs ++ x ∷ ys) (length xs) x (let longer = length-append xs (x ∷ ys) in omega (arith, longer)) all)

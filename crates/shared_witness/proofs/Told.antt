@@ -1,4 +1,4 @@
--- What the step of a seat tells of its view and of the word.
+-- What the step of a seat says about its view and about the word.
 use Rattle.std.proofs.Common.{◌≡◌, ℕ, ◌≤◌, min, nat_lt, List, set, slice_get, Some, refl, sym, ap, ◌∙◌, arith}
 use Rattle.std.proofs.lemmas.Bool.{cond_both, cond-false, le-ltb, cases_lt}
 use Rattle.std.proofs.Common.{inl, inr}
@@ -34,7 +34,7 @@ module _ (t : Terms) (old : View) (found : ℕ) (new : View) where
   closed piece (m, k, is, step) = set_view m.views k old (view_after_close m.bound piece old) new step.had step.has
       ∙ ap (λ n. view_after_close n piece old) (sym is)
 
-  -- the bound is at most the first, and at most what the seat had seen
+  -- the bound is at most the first bound, and at most what the seat had seen
   bound_low : (m : Moment) (k : ℕ) → RaceRule t m → slice_get m.views k ≡ Some old → found ≡ m.bound → (found ≤ t.first) × (found ≤ old.seen)
   bound_low m k h had is =
       let low = least-first t.first m.views in
@@ -53,7 +53,7 @@ module _ (t : Terms) (old : View) (found : ℕ) (new : View) where
   unfolding Closes
   closed_low piece (m, k, is, step) = bound_low m k step.held step.had is
 
--- a take goes by the piece that it answers
+-- a take is determined by the piece that it returns
 pub take_by_piece : (pieces found : ℕ) (v : View) → view_after_take pieces (min found pieces) v ≡ view_after_take pieces found v
 take_by_piece pieces found v = elim (cases_lt found pieces) [
   | inl left ↦ let same : min found pieces ≡ found = omega arith in ap (λ n. view_after_take pieces n v) same
@@ -66,7 +66,7 @@ take_by_piece pieces found v = elim (cases_lt found pieces) [
 pub take_share : (pieces found : ℕ) (v : View) → 1 ≤ v.may → share (view_after_take pieces found v) ≡ share v
 take_share pieces found v may = cond_both (nat_lt found pieces) _ _ (λ w. share w ≡ share v) (λ left. refl) (λ past. omega arith)
 
--- a post goes by the bound that it answers
+-- a post is determined by the bound that it returns
 pub post_by_bound : (found value : ℕ) (v : View) → view_after_post (min found value) value v ≡ view_after_post found value v
 post_by_bound found value v =
     let same : min (min found value) value ≡ min found value = omega arith in

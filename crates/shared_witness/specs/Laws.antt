@@ -1,4 +1,4 @@
--- The laws of a race that threads share: each step keeps the rule, and is the event of the race that it is named after.
+-- The laws of a race that threads share: each step keeps the rule, and is the event of the race with the same name.
 use Rattle.std.specs.Prelude.{ℕ, ◌+◌, ◌≡◌, ◌≢◌, ◌≤◌, ◌<◌, ◌↔◌, ◌⊎◌, min, not, IsTrue, List, slice_get, slice_index, length, IfSome, Some}
 use Rattle.race_core.specs.declared.event.Event.{Event}
 use Rattle.race_core.specs.declared.event.Event.TheVariants.{Take, Look, Post, Close}
@@ -50,40 +50,40 @@ JoinKeeps =
     slice_get m.views k ≡ Some v → slice_get m.views i ≡ Some w → i ≢ k → v.ends + v.may ≢ 0 →
     RaceRule t (after_join m k v i w)
 
--- ---- what the rule says of a seat and of the words
+-- ---- what the rule says about a seat and about the words
 
 -- the ticket never wraps
 abbrev pub TicketIsSmall : Type 0
 TicketIsSmall = (t : Terms) (m : Moment) → RaceRule t m → m.ticket ≤ t.pieces + t.workers
 
--- the piece of a take is one that no seat took before, and none is left exactly if all were taken
+-- a take gives a piece that no seat took before, and none is left exactly if all were taken
 abbrev pub TakeIsFresh : Type 0
 TakeIsFresh =
     (t : Terms) (m : Moment) → RaceRule t m →
     (m.ticket < t.pieces → times (taken_pieces m.views) m.ticket ≡ 0)
     × ((t.pieces ≤ m.ticket) ↔ EachOnce t.pieces (taken_pieces m.views))
 
--- a seat with the ends of all workers has all pieces and posts
+-- a seat that has the ends of all workers has all pieces and posts
 abbrev pub AllJoined : Type 0
 AllJoined =
     (t : Terms) (m : Moment) (k : ℕ) (v : View) → AreTerms t → RaceRule t m →
     slice_get m.views k ≡ Some v → v.ends + v.may ≡ t.workers →
     (m.bound ≡ min t.first v.posted) × EachOnce (min m.ticket t.pieces) v.taken
 
--- if the pieces that the seats took are all pieces, each once, some seat took each
+-- if the pieces that the seats took are all the pieces, each once, some seat took each piece
 abbrev pub EachHasTaker : Type 0
 EachHasTaker =
     (n : ℕ) (views : List View) → EachOnce n (taken_pieces views) → (p : ℕ) → p < n →
     (k : ℕ) × (v : View) × (slice_get views k ≡ Some v) × IsTrue (is_in v.taken p)
 
--- the least of the first bound and of all posts is the first bound, or some seat's least post
+-- the smallest of the first bound and all posts is the first bound, or the smallest post of some seat
 abbrev pub LeastHasPoster : Type 0
 LeastHasPoster =
     (first : ℕ) (views : List View) →
     (least_posted first views ≡ first)
     ⊎ ((k : ℕ) × (v : View) × (slice_get views k ≡ Some v) × (least_posted first views ≡ v.posted))
 
--- a joining loses no look, and no piece that was closed
+-- joining loses no look and no closed piece
 abbrev pub JoiningLosesNothing : Type 0
 JoiningLosesNothing =
     (m : Moment) (k : ℕ) (v : View) (i : ℕ) (w : View) → slice_get m.views k ≡ Some v →
@@ -100,8 +100,8 @@ StartIsShown =
     (t : Terms) (values : List ℕ) → AreTerms t →
     shown_race values t (seated t) ≡ start values t.first t.workers
 
--- Whatever steps the workers' seats make, in whatever order: the rule holds afterwards. And with any values at which the same
--- events of the race are enabled, the words and the views show the race after these events.
+-- Whatever steps the workers' seats make, in whatever order, the rule holds afterwards. With any values for which the same events
+-- of the race are enabled, the words and the views show the race after these events.
 abbrev pub HistoryIsShown : Type 0
 HistoryIsShown =
     (t : Terms) (values : List ℕ) (events : List Event) (m : Moment) → AreTerms t →
@@ -109,7 +109,7 @@ HistoryIsShown =
     RaceRule t m
     × IfSome (run (start values t.first t.workers) events) (λ r. r ≡ shown_race values t m)
 
--- a take of a seat that is not done
+-- a take by a seat that is not done
 abbrev pub TakeIsEvent : Type 0
 TakeIsEvent =
     (t : Terms) (m : Moment) (k : ℕ) (v : View) (values : List ℕ) → RaceRule t m →
@@ -122,7 +122,7 @@ LookIsEvent =
     slice_get m.views k ≡ Some v →
     after (shown_race values t m) (Look k) ≡ Some (shown_race values t (after_look m k v))
 
--- a post of a value that is no less than the least value of a piece
+-- a post of a value that is at least the smallest value of a piece
 abbrev pub PostIsEvent : Type 0
 PostIsEvent =
     (t : Terms) (m : Moment) (k : ℕ) (v : View) (value : ℕ) (values : List ℕ) → RaceRule t m →
@@ -130,7 +130,7 @@ PostIsEvent =
     after (shown_race values t m) (Post k value)
     ≡ Some (shown_race values t (after_post m k v value))
 
--- a closing look at a piece that the seat took and did not close, whose value is at least the bound
+-- a closing look at a piece that the seat took and has not closed, whose value is at least the bound
 abbrev pub CloseIsEvent : Type 0
 CloseIsEvent =
     (t : Terms) (m : Moment) (k : ℕ) (v : View) (piece : ℕ) (values : List ℕ) → RaceRule t m →

@@ -1,4 +1,4 @@
--- A moment of a race that threads share, between two steps: the rule that holds of it, and the moments after it.
+-- A moment of a race that threads share, between two steps: the rule that holds at it, and the moments that follow it.
 use Rattle.std.specs.Prelude.{ℕ, ◌+◌, ◌≡◌, ◌≢◌, ◌≤◌, ◌==◌, min, nat_lt, if◌then◌else◌, List, [], ◌∷◌, ◌++◌, length, All, sum_by, count_by, flat_map, slice_set}
 use Rattle.shared_witness.specs.declared.view.View.{View}
 use Rattle.shared_witness.specs.declared.view.Terms.{Terms}
@@ -16,15 +16,15 @@ taken_pieces views = flat_map (λ v. v.taken) views
 abbrev pub closed_pieces : List View → List ℕ
 closed_pieces views = flat_map (λ v. v.closed) views
 
--- how often the bound was looked at
+-- the number of looks at the bound
 abbrev pub all_looks : List View → ℕ
 all_looks views = sum_by (λ v. v.looks) views
 
--- how many takes found no piece
+-- the number of takes that found no piece
 abbrev pub ended_takes : List View → ℕ
 ended_takes views = sum_by (λ v. v.ends) views
 
--- the least of the first bound and of all posts
+-- the smallest of the first bound and all posts
 abbrev pub least_posted : ℕ → List View → ℕ
 least_posted first [] = first
 least_posted first (v ∷ views) = min v.posted (least_posted first views)
@@ -48,7 +48,7 @@ module _ (t : Terms) (m : Moment) where
   abbrev pub EachPieceTakenOnce : Type 0
   EachPieceTakenOnce = EachOnce (min m.ticket t.pieces) (taken_pieces m.views)
 
-  -- no piece is closed more often than it was taken, and so each at most once
+  -- no piece is closed more often than it was taken, so each is closed at most once
   abbrev pub ClosedWereTaken : Type 0
   ClosedWereTaken = All (λ v. (p : ℕ) → times v.closed p ≤ times v.taken p) m.views
 
@@ -57,7 +57,7 @@ module _ (t : Terms) (m : Moment) where
       (m.ticket ≡ length (taken_pieces m.views) + ended_takes m.views)
       × (ended_takes m.views ≢ 0 → length (taken_pieces m.views) ≡ t.pieces)
 
-  -- each worker may end once, and a seat with no such end, past or to come, is spent
+  -- each worker may end once, and a seat without such an end, past or future, is spent
   abbrev pub EndsAreShared : Type 0
   EndsAreShared =
       (sum_by (λ v. v.ends + v.may) m.views ≡ t.workers)
@@ -71,7 +71,7 @@ module _ (t : Terms) (m : Moment) where
     pub ticket_counts : TicketCountsTakes
     pub ends_are_shared : EndsAreShared
 
--- ---- the moment after each kind of step, by the seat of number k, whose view is v
+-- ---- the moment after each kind of step, by the seat with number k and view v
 
 abbrev pub opening : Terms → Moment
 opening t = record { ticket = 0; bound = t.first; views = new_view t.workers ∷ [] }
@@ -117,7 +117,7 @@ after_split m k v =
       views = slice_set m.views k (view_after_split v) ++ new_view 1 ∷ [];
     }
 
--- the seat of number i, whose view is w, is joined to that of number k
+-- the seat with number i and view w is joined to the seat with number k
 abbrev pub after_join : Moment → ℕ → View → ℕ → View → Moment
 after_join m k v i w =
     record {

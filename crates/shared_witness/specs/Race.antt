@@ -1,4 +1,4 @@
--- What clauses see of a race and of a seat.
+-- What clauses see of a race and its seats.
 use Rattle.std.specs.Prelude.{ℕ, ◌≡◌, ◌↔◌, ◌≤◌, ◌<◌, min, map, List}
 use Rattle.atomic_table.specs.Seated.{TableId}
 use Rattle.shared_witness.specs.declared.view.View.{View}
@@ -8,12 +8,12 @@ use Rattle.shared_witness.specs.Moment.{Moment, EachOnce, times, taken_pieces, a
 use Rattle.shared_witness.specs.Words.{AreTerms}
 use Rattle.shared_witness.specs.Steps.{IsStep, Posts}
 
--- which race it is, and its terms
+-- the identity of a race, and its terms
 pub record SharedRace : Type 0 where
   pub id : TableId
   pub terms : Terms
 
--- what the fields of a race keep: two words, no slot, and the number of pieces
+-- the invariant of a race's fields: two words, no slot, and the number of pieces
 pub record IsSharedRace (pieces : ℕ) (id : TableId) (t : Terms) : Type 0 where
   pub two_words : id.words ≡ 2
   pub no_slot : id.slots ≡ 0
@@ -21,16 +21,17 @@ pub record IsSharedRace (pieces : ℕ) (id : TableId) (t : Terms) : Type 0 where
   pub some_worker : 1 ≤ t.workers
   pub fits : AreTerms t
 
--- which race the seat is of, and its view
+-- the race that the seat belongs to, and the seat's view
 pub record Seated : Type 0 where
   pub race : TableId
   pub view : View
 
--- a seat of the race that did nothing yet, and may end once
+-- a seat of the race that has done nothing yet, and may end once
 abbrev pub new_seat : SharedRace → Seated
 new_seat race = record { race = race.id; view = new_view 1 }
 
--- At some moment the seat took the piece, which no seat had taken; or the number of pieces, exactly if all were taken, each once.
+-- At some moment, the seat took the piece, which no seat had taken before; or the result is the number of pieces, exactly if all
+-- were taken, each once.
 unfoldable pub TakesPiece : Terms → View → ℕ → View → Type 0
 TakesPiece t old piece new =
     (m : Moment) × (k : ℕ) × (piece ≡ min m.ticket t.pieces)
@@ -38,7 +39,7 @@ TakesPiece t old piece new =
     × ((piece ≡ t.pieces) ↔ EachOnce t.pieces (taken_pieces m.views))
     × IsStep t k old new m (after_take t m k old)
 
--- the bound that a post answers: the smaller of the bound found and the value
+-- the bound that a post returns: the smaller of the bound found and the value
 unfoldable pub PostsValue : Terms → View → ℕ → ℕ → View → Type 0
 PostsValue t old value bound new =
     (found : ℕ) × (bound ≡ min found value) × Posts t old found new value

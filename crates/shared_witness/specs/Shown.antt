@@ -1,11 +1,11 @@
--- The race that the words and the views show, read with the values of the pieces.
+-- The race shown by the words and the views, read with the values of the pieces.
 use Rattle.std.specs.Prelude.{ℕ, ◌==◌, min, not, List, map}
 use Rattle.race_core.specs.Race.{Worker, Race}
 use Rattle.shared_witness.specs.declared.view.View.{View}
 use Rattle.shared_witness.specs.declared.view.Terms.{Terms}
 use Rattle.shared_witness.specs.Moment.{Moment}
 
--- a seat has seen and posted the first bound, if it has seen and posted nothing less
+-- a seat that has seen or posted nothing smaller counts as having seen or posted the first bound
 abbrev pub shown_worker : ℕ → View → Worker
 shown_worker first v = record {
   taken = v.taken;

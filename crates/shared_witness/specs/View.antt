@@ -1,11 +1,11 @@
--- What a seat knows of a race, and what its own steps make of that.
+-- What a seat knows of a race, and how its own steps change that.
 use Rattle.std.specs.Prelude.{ℕ, ◌+◌, ◌-◌, ◌^◌, min, nat_lt, if◌then◌else◌, [], ◌∷◌, ◌++◌}
 use Rattle.shared_witness.specs.declared.view.View.{View}
 
 abbrev pub highest : ℕ
 highest = 2 ^ 32 - 1
 
--- the view that has taken, closed, seen and posted nothing, if this many takes may find no piece
+-- the view that has taken, closed, seen and posted nothing, of a seat for which this many takes may find no piece
 abbrev pub new_view : ℕ → View
 new_view may =
     record {
@@ -22,7 +22,7 @@ new_view may =
 abbrev pub spent_view : View
 spent_view = new_view 0
 
--- the number found is the seat's piece, or none was left
+-- the number found is the seat's piece, or no piece was left
 abbrev pub view_after_take : ℕ → ℕ → View → View
 view_after_take pieces found v =
     if nat_lt found pieces then record v { taken = v.taken ++ found ∷ [] }
@@ -38,7 +38,7 @@ abbrev pub view_after_close : ℕ → ℕ → View → View
 view_after_close bound piece v =
     record v { seen = bound; looks = v.looks + 1; closed = v.closed ++ piece ∷ [] }
 
--- a seat that gave one take that may find no piece to a new seat
+-- a seat that gave a new seat one of its takes that may find no piece
 abbrev pub view_after_split : View → View
 view_after_split v = record v { may = v.may - 1 }
 

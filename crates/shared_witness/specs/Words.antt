@@ -1,4 +1,4 @@
--- A moment as the table of words and seats keeps it.
+-- A moment, as stored in the table of words and seats.
 use Rattle.std.specs.Prelude.{ℕ, ◌≡◌, ◌≤◌, ◌<◌, ◌^◌, length, slice_index}
 use Rattle.irv_base.specs.declared.limits.TheConstants.{MOST_WORKERS}
 use Rattle.atomic_table.specs.Table.{State}

@@ -27,12 +27,12 @@ pub fn close_keeps()
     ensures { CloseKeeps }
 {}
 
-/// To split a seat keeps the rule.
+/// Splitting a seat keeps the rule.
 pub fn split_keeps()
     ensures { SplitKeeps }
 {}
 
-/// To join a seat to another keeps the rule.
+/// Joining a seat to another keeps the rule.
 pub fn join_keeps()
     ensures { JoinKeeps }
 {}
@@ -47,22 +47,22 @@ pub fn take_is_fresh()
     ensures { TakeIsFresh }
 {}
 
-/// A seat that the seats of all workers were joined to has all pieces and posts.
+/// A seat to which the seats of all workers were joined has all pieces and posts.
 pub fn all_joined()
     ensures { AllJoined }
 {}
 
-/// If the pieces that the seats took are all pieces, some seat took each.
+/// If the pieces that the seats took are all the pieces, some seat took each piece.
 pub fn each_has_taker()
     ensures { EachHasTaker }
 {}
 
-/// The bound is the first one, or some seat's least post.
+/// The bound is the first bound, or the smallest post of some seat.
 pub fn least_has_poster()
     ensures { LeastHasPoster }
 {}
 
-/// If a seat is joined to another, the looks of both and the pieces that they closed are the other's.
+/// If a seat is joined to another, that other seat has the looks of both and the pieces that both closed.
 pub fn joining_loses_nothing()
     ensures { JoiningLosesNothing }
 {}

@@ -1,4 +1,4 @@
-//! A race whose ticket and bound are two words that threads share: each step of a worker is one atomic step.
+//! A race whose ticket and bound are two words that threads share. Each step of a worker is one atomic step.
 #![tactic(auto)]
 
 pub mod laws;

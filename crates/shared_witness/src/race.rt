@@ -16,9 +16,9 @@ use std::alloc::Global;
 use std::marker::{Brand, Model};
 use std::vec::IntoIter;
 
-/// A race: a ticket that hands out pieces, and a bound that only falls. Workers share it by `&`, each with a seat of its own.
+/// A race: a ticket that hands out pieces, and a bound that only falls. Workers share it by `&`, and each has its own seat.
 ///
-/// After `new` no call takes memory, none waits for another, and none tries a step again.
+/// After `new`, no call allocates memory, none waits for another, and none retries a step.
 #[derive(Drop)]
 pub struct Race {
     words: Words,
@@ -35,7 +35,7 @@ impl Model for Race {
     ghost invariant = { λ r. IsSharedRace r.pieces r.words.shared.table_id r.words.shared.key };
 }
 
-/// A worker's seat. Contracts see which race it is of, and its view: what it took, closed, saw and posted.
+/// A worker's seat. Contracts see the race that it belongs to, and its view: what it took, closed, saw and posted.
 #[derive(Drop)]
 pub struct RaceSeat {
     seat: WordSeat,
@@ -57,12 +57,12 @@ impl Model for RaceSeat {
 pub struct Seats {
     /// The race, which all workers share.
     pub race: Race,
-    /// A seat for each worker, none of which was used yet.
+    /// A seat for each worker. No seat has been used yet.
     pub seats: Vec<RaceSeat>,
 }
 
 impl Race {
-    /// A race over pieces 0, 1 and so on below `pieces`, with `first` as the bound, and a seat for each of the workers.
+    /// Creates a race over the pieces 0, 1 and so on below `pieces`, with `first` as the bound, and a seat for each worker.
     pub fn new(alloc: Global, pieces: u32, first: u32, workers: u32) -> Result<Seats, Memory>
         requires pieces { 1 ≤ pieces }
         requires workers { (1 ≤ workers) × (workers ≤ MOST_WORKERS) }
@@ -87,7 +87,7 @@ impl Race {
         })
     }
 
-    /// Takes the next piece: one that no seat took before, or the number of pieces if all were taken. The seat is then done.
+    /// Takes the next piece, which no seat took before. If all were taken, returns the number of pieces, and the seat is then done.
     pub fn take(&self, seat: &mut RaceSeat) -> u32
         requires race { seat.old.race ≡ self.now.id }
         requires going { seat.old.view.ends ≡ 0 }
@@ -116,7 +116,7 @@ impl Race {
         look_word::<Brand>(&self.words, &mut seat.seat) as u32
     }
 
-    /// Lowers the bound to `m`, if it is above, and answers what it is then.
+    /// Lowers the bound to `m`, if the bound is above `m`, and returns what it is then.
     pub fn post(&self, seat: &mut RaceSeat, m: u32) -> u32
         requires race { seat.old.race ≡ self.now.id }
         ensures race { seat.new.race ≡ self.now.id }
@@ -141,8 +141,8 @@ impl Race {
         close_word::<Brand>(&self.words, &mut seat.seat, p) as u32
     }
 
-    /// Ends the race, and answers the bound: the least of the first bound and of all posts, and at most what any seat saw. If all seats
-    /// are done, the pieces that they took are all pieces, each once.
+    /// Ends the race and returns the bound: the smallest of the first bound and all posts, which is at most what any seat saw. If
+    /// all seats are done, the pieces that they took are all the pieces, each once.
     pub fn finish(self, seats: Vec<RaceSeat>) -> u32
         requires race { All (λ s. s.race ≡ self.id) seats.items }
         requires each { length seats.items ≡ self.terms.workers }
@@ -162,7 +162,7 @@ impl Race {
     }
 }
 
-/// The bound at the end, by the seat that has all ends.
+/// The bound at the end, from the seat that has all ends.
 fn last_bound(words: Words, all: WordSeat) -> u32
     requires table { all.table_id ≡ words.shared.table_id }
     requires words { IsSharedRace words.shared.key.pieces words.shared.table_id words.shared.key }
@@ -177,7 +177,7 @@ fn last_bound(words: Words, all: WordSeat) -> u32
     bound as u32
 }
 
-/// Joins the seats to the first, in turn.
+/// Joins the seats to the first, one by one.
 fn join_seats(words: &Words, first: &mut WordSeat, seats: IntoIter<RaceSeat>)
     requires table { first.old.table_id ≡ words.now.shared.table_id }
     requires two_words { words.now.shared.table_id.words ≡ 2 }
@@ -207,7 +207,7 @@ fn join_to(words: &Words, first: &mut WordSeat, seat: RaceSeat)
     words.shared.join_seat::<Joining>(first, other);
 }
 
-/// A seat for one worker, cut off the seat of several.
+/// Splits a seat for one worker off the seat of several.
 fn split_off(words: &Words, rest: &mut WordSeat) -> RaceSeat
     requires table { rest.old.table_id ≡ words.now.shared.table_id }
     requires two_words { words.now.shared.table_id.words ≡ 2 }

@@ -1,4 +1,4 @@
-// The atomic steps on the two words. Each gets the race's terms, for its proof only.
+// The atomic steps on the two words. Each receives the race's terms, only for its proof.
 ghost use Rattle.std.specs.Prelude.{◌≡◌, ◌≢◌, ◌+◌, ◌≤◌, IsTrue, not};
 ghost use Rattle.shared_witness.specs.Steps.{Takes, Looks, Posts, Closes};
 ghost use Rattle.irv_base.specs.Candidates.{is_in};
@@ -7,7 +7,7 @@ use crate::view::{BOUND, TICKET, View, WordSeat, Words};
 use atomic_table::Play;
 use std::marker::{Brand, PhantomData};
 
-/// What a step gets: the terms of its race.
+/// What a step receives: the terms of its race.
 pub(crate) trait Told {
     ghost use Rattle.shared_witness.specs.declared.view.Terms.{Terms};
 
@@ -18,7 +18,7 @@ impl Told for Brand {
     ghost terms = { record { pieces = 0; first = 0; workers = 0 } };
 }
 
-/// What a closing look gets: the terms of its race, and the piece.
+/// What a closing look receives: the terms of its race, and the piece.
 pub(crate) trait ToldPiece {
     ghost use Rattle.std.specs.Prelude.{ℕ};
     ghost use Rattle.shared_witness.specs.declared.view.Terms.{Terms};
@@ -68,7 +68,7 @@ impl<T: ToldPiece> Play<u8, View> for Closing<T> {
         (after.1 ≡ me.1) × Closes T.terms me.0 found after.0 T.piece };
 }
 
-/// Adds one to the ticket, and answers what it was.
+/// Adds one to the ticket, and returns what it was.
 pub(crate) fn take_word<T: Told>(words: &Words, seat: &mut WordSeat) -> u64
     requires terms { T.terms ≡ words.now.shared.key }
     requires table { seat.old.table_id ≡ words.now.shared.table_id }
@@ -94,7 +94,7 @@ pub(crate) fn look_word<T: Told>(words: &Words, seat: &mut WordSeat) -> u64
     words.shared.load::<Looking<T>>(seat, BOUND)
 }
 
-/// Lowers the bound to the value, if it is above, and answers what it was.
+/// Lowers the bound to the value, if the bound is above it, and returns what the bound was.
 pub(crate) fn post_word<T: Told>(words: &Words, seat: &mut WordSeat, value: u32) -> u64
     requires terms { T.terms ≡ words.now.shared.key }
     requires table { seat.old.table_id ≡ words.now.shared.table_id }

@@ -1,4 +1,4 @@
-// What is fixed of a race, what a seat knows of it, and the rule over both.
+// What is fixed about a race, what a seat knows of it, and the rule over both.
 
 use atomic_table::{Join, Seat, Split, Table, TableRule};
 use std::alloc::Global;
@@ -7,33 +7,33 @@ use std::collections::LinkedList;
 /// What is fixed when a race is made: the number of its pieces, the first bound, and the number of workers.
 #[derive(Clone, Copy, Debug)]
 pub struct Terms {
-    /// How many pieces there are: numbers 0, 1 and so on below this.
+    /// The number of pieces. They are numbered 0, 1 and so on below this.
     pub pieces: u32,
     /// The bound at the start, in votes.
     pub first: u32,
-    /// How many workers have a seat.
+    /// The number of workers, each of whom has a seat.
     pub workers: u32,
 }
 
-/// What a seat knows, in proofs and clauses alone: no value of it is made.
+/// What a seat knows, only in proofs and clauses: no value of this type is made.
 pub struct View {
-    /// The pieces that it took, in turn.
+    /// The pieces that it took, in order.
     pub taken: LinkedList<u32>,
-    /// The pieces that it closed, in turn.
+    /// The pieces that it closed, in order.
     pub closed: LinkedList<u32>,
-    /// The least bound that it has seen.
+    /// The smallest bound that it has seen.
     pub seen: u32,
-    /// The least value that it posted.
+    /// The smallest value that it posted.
     pub posted: u32,
-    /// How often it looked at the bound.
+    /// The number of times it looked at the bound.
     pub looks: u64,
-    /// How many of its takes found no piece.
+    /// The number of its takes that found no piece.
     pub ends: u32,
-    /// How many more of its takes may find no piece.
+    /// The number of its takes that may still find no piece.
     pub may: u32,
 }
 
-/// The rule that holds of the two words and all views between any two steps.
+/// The rule that holds for the two words and all views between any two steps.
 pub(crate) struct Rule;
 
 impl TableRule<u8, View, Terms> for Rule {

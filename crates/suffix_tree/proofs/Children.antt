@@ -1,4 +1,5 @@
--- The score of a suffix from that of the one that it grows from, and the children of a suffix as far as they are made.
+-- The score of a suffix, computed from the score of the suffix that it extends, and the children of a suffix, as far as they are
+-- made.
 use Rattle.std.proofs.Common.{◌≡◌, ℕ, zero, suc, ◌+◌, ◌<◌, Bool, true, false, not, List, [], ◌∷◌, ◌++◌, map, filter, cond, get_or, All, None, if◌then◌else◌, append-nil, subst, refl, sym, ap, arith, add-one, zero-add, ◌∙◌}
 use Rattle.std.proofs.Math.Path.{fun_ext}
 use Rattle.std.specs.List.{range_with_len}

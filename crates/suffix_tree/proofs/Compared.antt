@@ -15,7 +15,8 @@ not_less Less p h = h
 not_less Equal p h = refl
 not_less Greater p h = refl
 
--- what isn't searched before another has a greater low, or the same, and doesn't come before it, both read backwards
+-- a suffix that isn't searched before another has a greater low, or the same low and doesn't come before it when both are read
+-- backwards
 pub not_sooner : (x y : Scored) → is_lt (search_cmp y x) ≡ false → (x.low < y.low) ⊎ ((x.low ≡ y.low) × (comes_before y.tail.list x.tail.list ≡ false))
 not_sooner x y h = go (nat_cmp y.low x.low) refl h where
   rest : Ordering

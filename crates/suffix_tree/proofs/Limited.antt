@@ -18,7 +18,7 @@ use Rattle.suffix_tree.specs.Scores.{IsScoredOver, IsScoredBelow, AreScoredBelow
 use Rattle.suffix_tree.proofs.Children.{children_below, filter-more, score-from, score-more, some-by-margin, scored-child, all_pushed}
 use Rattle.suffix_tree.proofs.Tails.{set-more, suffix-all, suffix-member, suffix-members, suffix-rest, suffix_more}
 
--- ---- a score falls by no offer
+-- ---- no offer lowers a score
 offered-le : (score : Score) (margin : ℕ) (a : Assertion) → score.low ≤ (offered score margin a).low
 offered-le score margin a = go (nat_lt score.low margin || ((score.low == margin) && is_before_that a score.by)) refl where
   go : (b : Bool) → (nat_lt score.low margin || ((score.low == margin) && is_before_that a score.by)) ≡ b →
@@ -39,13 +39,13 @@ nens-le row c set (l ∷ rest) score =
 pub below-none : (limit : ℕ) (score : Score) → limit ≤ score.low → None ≡ below limit score
 below-none limit score l = ap (λ b. cond b (Some score) None) (sym (le-ltb score.low limit l))
 
--- it isn't once it has reached the limit
+-- the score isn't below the limit once it has reached it
 pub nens-reached : (row : List ℕ) (c set limit : ℕ) (behind : List ℕ) (score whole : Score) → limit ≤ score.low → with_nens row c set score behind ≡ whole →
     None ≡ below limit whole
 nens-reached row c set limit behind score whole l is =
     below-none limit whole (subst (λ s. limit ≤ s.low) is (le_trans l (nens-le row c set behind score)))
 
--- by a row of tallies it is that of the records
+-- computed from a row of tallies, it is the score from the records
 pub nens-of : (records : List (List ℕ)) (row : List ℕ) (n set c : ℕ) → HasTallies records n set row → c < n → has set c ≡ true →
     (behind : List ℕ) → All (λ l. l < n) behind → All (λ l. has set l ≡ true) behind → (score : Score) →
     with_nens row c set score behind ≡ all_offered records score (nens_for c set behind)
@@ -57,7 +57,7 @@ nens-of records row n set c tallied below inside (l ∷ rest) all members score 
     (offered score (get_or row c 0 - get_or row l 0) (Nen c l set))
     ∙ ap (λ m. all_offered records (offered score m (Nen c l set)) (nens_for c set rest)) margin
 
--- which is the score of the suffix with the candidate in front
+-- this is the score of the suffix with the candidate in front
 pub scored-by_row : (records : List (List ℕ)) (n m c set : ℕ) (t row : List ℕ) (from with_nebs : Score) → is_suffix n (c ∷ t) ≡ true → n ≡ m → c < n →
     set ≡ set_of (c ∷ t) → from ≡ score_of n records t →
     with_nebs ≡ all_offered records from (map (λ w. Neb w c) (filter (λ w. not (has set w)) (candidates n))) →
@@ -67,7 +67,7 @@ scored-by_row records n m c set t row from with_nebs longer same below is scored
     (nens-of records row m set c tallied (subst (λ k. c < k) same below) (suffix-member n c set (c ∷ t) longer is here) t
     (subst (λ k. All (λ l. l < k) t) same (suffix-all n t (suffix-rest n c t longer))) (suffix-members n c set t longer is) with_nebs)
 
--- the same from what is known of the parent, the NEBs and the set
+-- the same, from what is known about the parent, the NEBs and the set
 pub scored-from_parent : (bag : Kept) (counts : Counts) (parent : Scored) (c set wider : ℕ) (with_nebs : Score) → c < parent.tail.n →
     is_in parent.tail.list c ≡ false → parent.tail.n ≡ bag.n → IsScoredOver bag parent → is_suffix parent.tail.n parent.tail.list ≡ true →
     set ≡ set_of parent.tail.list → (has set c ≡ false → wider ≡ set + 2 ^ c) → AreFilledFrom bag counts →
@@ -125,7 +125,7 @@ module _ (bag : Kept) (limit : ℕ) (t : Suffix) (c : ℕ) (whole : Score)
     found_is = none (nat_lt whole.low limit) o e refl f;
   }
 
--- ---- the longer suffixes as far as they are made
+-- ---- the longer suffixes, as far as they are made
 abbrev in_list : Option Scored → List Scored
 in_list None = []
 in_list (Some s) = s ∷ []

@@ -1,4 +1,4 @@
--- Assertions that are offered to a score one after the other, for all records that the numbers are of.
+-- Assertions that are offered to a score one by one, for all records that have these numbers.
 use Rattle.std.proofs.Common.{◌≡◌, ◌==◌, ◌&&◌, ◌||◌, ℕ, ◌+◌, ◌<◌, nat_lt, Bool, true, false, not, inl, inr, Some, List, [], ◌∷◌, map, filter, cond, length, get_or, drop, refl, sym, ap, arith, ltb-true, eqb-true, ◌∙◌}
 use Rattle.std.proofs.lemmas.Bool.{and_parts, both_ways, ltb-false, or_cases}
 use Rattle.std.proofs.lemmas.List.{drop_more}
@@ -9,7 +9,7 @@ use Rattle.assertions.specs.Assertions.{is_true, true_margin, votes_for, votes_a
 use Rattle.assertions.specs.Scores.{Score, offered, all_offered, is_before_that}
 use Rattle.suffix_tree.specs.Offers.{IsSomeByMargin}
 
--- the NEBs of those of a list that aren't in the set
+-- the NEBs of those in a list that aren't in the set
 abbrev pub nebs_of : ℕ → ℕ → List ℕ → List Assertion
 nebs_of set c winners = map (λ w. Neb w c) (filter (λ w. not (has set w)) winners)
 
@@ -20,7 +20,7 @@ nebs-next set c w rest = go (has set w) where
   go true = refl
   go false = refl
 
--- the next of a list
+-- the next element of a list
 at-next : (xs : List ℕ) (i w : ℕ) → i < length xs → get_or xs i 0 ≡ w → drop i xs ≡ w ∷ drop (i + 1) xs
 at-next xs i w within at = drop_more xs i 0 within ∙ ap (λ x. x ∷ drop (i + 1) xs) at
 
@@ -41,7 +41,7 @@ neb-left records set c i w winners score within at is =
 abbrev is_better : Score → ℕ → Assertion → Bool
 is_better score margin a = nat_lt score.low margin || ((score.low == margin) && is_before_that a score.by)
 
--- nothing is better without a margin
+-- nothing without a margin is better
 none-better : (score : Score) (margin : ℕ) (a : Assertion) → IsSomeByMargin score → margin ≡ 0 → is_better score margin a ≡ true → ⊥
 none-better score margin a some none e = elim (or_cases (nat_lt score.low margin) ((score.low == margin) && is_before_that a score.by) e) [
   | inl l ↦ let lt = ltb-true score.low margin l in omega arith
@@ -57,7 +57,7 @@ untrue score margin a some none = go (is_better score margin a) refl where
   go true e = absurd (none-better score margin a some none e)
   go false e = refl
 
--- neither does one by its margin take the assertion away
+-- an offer with a margin doesn't take the assertion away either
 still : (score : Score) (margin : ℕ) (a : Assertion) → IsSomeByMargin score → IsSomeByMargin (offered score margin a)
 still score margin a some = go (is_better score margin a) refl where
   go : (b : Bool) → is_better score margin a ≡ b → IsSomeByMargin (cond b (record { low = margin; by = Some a }) score)

@@ -21,7 +21,7 @@ at-member (x ∷ xs) (suc i) d l = there (at-member xs i d (omega arith))
 pub suffix-all : (n : ℕ) (t : List ℕ) → is_suffix n t ≡ true → All (λ c. c < n) t
 suffix-all n t h k d l = below-from_test n t (suffix-below n t h) (get_or t k d) (at-member t k d l)
 
--- the set of a suffix: it has those of the suffix
+-- the set of a suffix has the suffix's candidates
 pub suffix-small : (n m set : ℕ) (t : List ℕ) → n ≡ m → is_suffix n t ≡ true → set ≡ set_of t → set < 2 ^ m
 suffix-small n m set t same h is = subst (λ k. set < 2 ^ k) same (subst (λ x. x < 2 ^ n) (sym is) (suffix-set n t h))
 
@@ -38,7 +38,7 @@ suffix-member n x set t h same m = ap (λ s. has s x) same ∙ suffix-has n t x 
 pub suffix-members : (n c set : ℕ) (t : List ℕ) → is_suffix n (c ∷ t) ≡ true → set ≡ set_of (c ∷ t) → All (λ l. has set l ≡ true) t
 suffix-members n c set t h same k d l = suffix-member n (get_or t k d) set (c ∷ t) h same (there (at-member t k d l))
 
--- the candidate before a place isn't at it or behind it
+-- the candidate before a place is neither at it nor after it
 pub before-out : (n at c : ℕ) (list : List ℕ) → is_suffix n list ≡ true → 0 < at → at ≤ length list → c ≡ get_or list (at - 1) c →
     is_in (drop at list) c ≡ false
 before-out n at c list h some within e =
@@ -48,7 +48,7 @@ before-out n at c list h some within e =
     ∙ ap (λ k. c ∷ drop k list) next in
     (suffix-head n c (drop at list) (ap (is_suffix n) (sym split) ∙ suffix-drop n (at - 1) list h)).1
 
--- the same where more candidates stand behind the list
+-- the same, if more candidates come after the list
 pub before-front : (n at c : ℕ) (list behind : List ℕ) → is_suffix n (list ++ behind) ≡ true → 0 < at → at ≤ length list → c ≡ get_or list (at - 1) c →
     (c < n) × (is_in (drop at (list ++ behind)) c ≡ false) × (c ∷ drop at (list ++ behind) ≡ drop (at - 1) (list ++ behind))
 before-front n at c list behind h some within e =

@@ -1,4 +1,4 @@
--- Of all NENs of a candidate over those behind it the best is that over the one with the fewest votes.
+-- Of all NENs of a candidate over those after it, the best is the one over the candidate with the fewest votes.
 use Rattle.std.proofs.Common.{◌≡◌, ◌==◌, ◌&&◌, ◌||◌, ℕ, ◌+◌, ◌-◌, ◌/◌, ◌%◌, ◌^◌, ◌<◌, ◌≤◌, min, nat_lt, Bool, true, false, inl, inr, Option, Some, None, List, [], ◌∷◌, cond, length, get_or, drop, refl, sym, subst, ap, ap₂, arith, lt-ltb, ltb-true, eq-eqb, eqb-true, ◌∙◌}
 use Rattle.std.proofs.lemmas.Bool.{and_from, and_parts, both_ways, cases_Bool, cases_eq, cases_lt, or_cases, or_left, or_right}
 use Rattle.std.proofs.lemmas.List.{drop_more}
@@ -15,7 +15,7 @@ use Rattle.suffix_tree.specs.Offers.{with_nens, with_standing}
 abbrev is_better : Score → ℕ → Assertion → Bool
 is_better score margin a = nat_lt score.low margin || ((score.low == margin) && is_before_that a score.by)
 
--- NENs of the same winner and set stand by their losers
+-- NENs with the same winner and set are in the order of their losers
 nen-before : (c l d set : ℕ) → l < d → is_before (Nen c l set) (Nen c d set) ≡ true
 nen-before c l d set h =
     let losers : stands_before (l ∷ set ∷ []) (d ∷ set ∷ []) ≡ true = or_left (nat_lt l d) ((l == d) && stands_before (set ∷ []) (set ∷ [])) (lt-ltb l d h) in
@@ -29,7 +29,7 @@ before-least c l d set (Some b) h k = elim (cases_eq l d) [
   | inr ne ↦ stands_before-chain (key (Nen c l set)) (key (Nen c d set)) (key b) (nen-before c l d set (omega (arith, ne))) k
 ]
 
--- a smaller number is better than what a greater one is better than
+-- if a greater number is better than something, so is a smaller number
 module _ (c set for_winner : ℕ) where
   abbrev better : Score → ℕ → Bool
   better s k = is_better s (for_winner - k / 2 ^ 8) (Nen c (k % 2 ^ 8) set)
@@ -58,7 +58,7 @@ module _ (c set for_winner : ℕ) where
   abbrev chosen : ℕ → Score
   chosen k = record { low = for_winner - k / 2 ^ 8; by = Some (Nen c (k % 2 ^ 8) set) }
 
-  -- against a chosen one the smaller number is the better
+  -- compared with a chosen number, the smaller number is better
   better-chosen : (j k : ℕ) → j < k → k / 2 ^ 8 ≤ for_winner → better (chosen k) j ≡ true
   better-chosen j k h most =
       let high : ℕ = for_winner - j / 2 ^ 8 in
@@ -105,7 +105,7 @@ module _ (c set for_winner : ℕ) where
     | inr none ↦ none
   ]
 
-  -- of two the smaller number alone counts
+  -- of two numbers, only the smaller counts
   pub least-counts : (s : Score) (k j : ℕ) → k / 2 ^ 8 ≤ for_winner → j / 2 ^ 8 ≤ for_winner →
       with_standing for_winner c set (with_standing for_winner c set s k) j ≡ with_standing for_winner c set s (min k j)
   least-counts s k j k_most j_most = elim (cases_lt j k) [
@@ -127,7 +127,7 @@ module _ (c set for_winner : ℕ) where
         ]
   ]
 
-  -- a number that has the loser's votes, as far as they count, and the loser
+  -- a number that consists of the loser's votes, as far as they count, and the loser
   pub of-loser : (row : List ℕ) (s : Score) (k l : ℕ) → for_winner ≡ get_or row c 0 → k / 2 ^ 8 ≡ min (get_or row l 0) for_winner → k % 2 ^ 8 ≡ l →
       with_standing for_winner c set s k ≡ offered s (get_or row c 0 - get_or row l 0) (Nen c l set)
   of-loser row s k l winner votes loser =

@@ -1,4 +1,4 @@
--- The order in which scored suffixes are searched is a total one.
+-- The order in which scored suffixes are searched is total.
 use Rattle.std.specs.Prelude.{reverse}
 use Rattle.std.specs.Cmp.{IsTotalOrder, back_total, on_total, then_total, nat_cmp_total}
 use Rattle.std.specs.Cmp.Lexicographic.{nat_list_cmp_total, options_total}

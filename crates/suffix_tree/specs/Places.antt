@@ -1,4 +1,4 @@
--- Suffixes of orders of n candidates, for whom there is room.
+-- Suffixes of orders of n candidates, with room for all of them.
 use Rattle.std.specs.Prelude.{◌≤◌, ℕ, List, IsTrue}
 use Rattle.irv_base.specs.Suffixes.{is_suffix}
 use Rattle.irv_base.specs.declared.limits.TheConstants.{ROOM}

@@ -15,6 +15,6 @@ with_front t c = record { n = t.n; list = c ∷ t.list }
 abbrev pub children : Suffix → List Suffix
 children t = map (with_front t) (filter (λ c. not (is_in t.list c)) (candidates t.n))
 
--- the whole order that it is, if it has all candidates
+-- the suffix as a whole order, if it has all candidates
 abbrev pub whole : Suffix → Option (List ℕ)
 whole t = whole_of t.n t.list

@@ -11,8 +11,8 @@ use set_tallies::Tallies;
 use std::alloc::Global;
 use std::sync::ledger::Ledger;
 
-/// The suffix with one more candidate in front, with the score that `child` gives it, if its low is below the limit. If its NEBs show
-/// that it isn't, its NENs aren't looked at. The one error is want of memory.
+/// Returns the suffix with one more candidate in front, with the score that `child` gives it, if its low is below the limit. If its
+/// NEBs show that the low isn't, its NENs aren't looked at. The only error is lack of memory.
 pub fn child_below(
     parent: &Scored,
     c: Candidate,
@@ -51,10 +51,10 @@ pub fn child_below(
     }
 }
 
-/// Those of the suffixes that are longer than that of `s` by one candidate whose low is below the limit, in candidate order, each with
-/// its score. One step.
+/// Returns those suffixes that are one candidate longer than the suffix of `s` and whose low is below the limit, in candidate
+/// order, each with its score. This is one step.
 ///
-/// `s` is scored over the records of the tallies. The one error is want of memory.
+/// `s` is scored over the records of the tallies. The only error is lack of memory.
 pub fn expand_below<L: Ledger>(
     alloc: Global,
     s: &Scored,

@@ -1,6 +1,5 @@
-//! Suffixes of elimination orders with what they have against them: the greatest margin of a true assertion that
-//! refutes a suffix, and the first assertion of that margin. A longer suffix is scored from the one that it grows
-//! from, and one row of tallies.
+//! Suffixes of elimination orders, with what they have against them: the greatest margin of a true assertion that refutes a suffix,
+//! and the first assertion that has that margin. A longer suffix is scored from the suffix that it extends and one row of tallies.
 #![tactic(auto)]
 
 mod below;

@@ -1,7 +1,8 @@
-// What a suffix has against it, and more assertions that are offered to it.
+// What a suffix has against it, and further assertions that are offered to it.
 //
-// Only true NEBs are offered, and they are few if a contest is close. Of the NENs that a child adds only one is offered. They differ in
-// the loser, so the best is the one over the loser with the fewest votes in the row, and at equal votes over the first candidate.
+// Only true NEBs are offered, and there are few of them if a contest is close. Of the NENs that a child adds, only one is offered.
+// They differ in the loser, so the best is the one over the loser with the fewest votes in the row, and if votes are equal, over
+// the first such candidate.
 ghost use Rattle.std.specs.Prelude.{◌≡◌, ℕ, ◌<◌, ◌≤◌, ◌/◌, ◌%◌, ◌^◌, min, not, List, ◌∷◌, map, filter, get_or};
 ghost use Rattle.irv_base.specs.Candidates.{candidates, has};
 ghost use Rattle.irv_base.specs.declared.limits.TheConstants.{ROOM};
@@ -55,7 +56,7 @@ pub fn offer(score: Score, margin: u32, a: Assertion) -> Score
     }
 }
 
-/// The margin of the NEB that `w` beats `l`, in votes, or 0 if it isn't true.
+/// The margin, in votes, of the NEB that `w` beats `l`, or 0 if the NEB isn't true.
 pub fn neb_margin(ahead: &Ahead, w: Candidate, l: Candidate) -> u32
     requires winner { w < ahead.now.n }
     requires loser { l < ahead.now.n }
@@ -65,8 +66,8 @@ pub fn neb_margin(ahead: &Ahead, w: Candidate, l: Candidate) -> u32
     ahead.first(w).saturating_sub(ahead.ahead(l, w))
 }
 
-/// The score after the NEBs of those outside the set over `c`. Only true ones are offered: the others have no margin, and no score
-/// that has none has an assertion.
+/// The score after the NEBs over `c` of those outside the set. Only true ones are offered: the others have no margin, and a score
+/// that has no margin has no assertion.
 pub fn offer_nebs(start: Score, c: Candidate, set: CandSet, ahead: &Ahead) -> Score
     requires below { c < ahead.now.n }
     ensures { (records : List (List ℕ)) → AreOf ahead.now records → IsSomeByMargin start
@@ -84,7 +85,7 @@ pub fn offer_nebs(start: Score, c: Candidate, set: CandSet, ahead: &Ahead) -> Sc
     score
 }
 
-// The tally of a candidate in a row, or 0 for one that the row hasn't.
+// The tally of a candidate in a row, or 0 if the row doesn't have the candidate.
 fn votes(row: &[u32], c: Candidate) -> u32
     ensures { result ≡ get_or row.now c 0 }
 {
@@ -94,11 +95,12 @@ fn votes(row: &[u32], c: Candidate) -> u32
     }
 }
 
-// How many values a byte has.
+// The number of values that a byte has.
 const BYTE: u64 = 1 << 8;
 
-// The votes of a loser, as far as they count against the winner's, followed by the loser: the smaller the number, the better is the NEN
-// over this loser. Votes beyond the winner's count no more, so of NENs without a margin the first in the fixed order is the best.
+// The votes of a loser, as far as they count against the winner's, followed by the loser: the smaller the number, the better the
+// NEN over this loser. Votes beyond the winner's don't count, so of several NENs without a margin, the first in the fixed order is
+// the best.
 fn standing(row: &[u32], for_winner: u32, l: Candidate) -> u64
     ensures votes { result / 2 ^ 8 ≡ min (get_or row.now l 0) for_winner }
     ensures loser { result % 2 ^ 8 ≡ l }
@@ -107,7 +109,7 @@ fn standing(row: &[u32], for_winner: u32, l: Candidate) -> u64
     u64::from(votes(row, l).min(for_winner)) * BYTE + u64::from(l.0)
 }
 
-// The least standing of some losers: of all NENs over them the one over its loser is the best, so that it alone counts.
+// The smallest standing of some losers. Of all NENs over them, the one over its loser is the best, so only that one counts.
 fn least_standing(row: &[u32], for_winner: u32, first: Candidate, others: &[Candidate]) -> u64
     ensures votes { result / 2 ^ 8 ≤ for_winner }
     ensures loser { result % 2 ^ 8 < ROOM }
@@ -122,7 +124,7 @@ fn least_standing(row: &[u32], for_winner: u32, first: Candidate, others: &[Cand
     least
 }
 
-/// The score after the NENs of `c` over those after it, by a row of the set.
+/// The score after the NENs of `c` over those after it, from a row of the set.
 pub fn offer_nens(
     start: Score,
     c: Candidate,
@@ -145,7 +147,8 @@ pub fn offer_nens(
     offer(start, for_winner - (least / BYTE) as u32, claim)
 }
 
-/// The score after the NENs of `c` over those after it, if it is below the limit. If it isn't before them, none is looked at.
+/// The score after the NENs of `c` over those after it, if it is below the limit. If the score isn't below the limit before them,
+/// no NEN is looked at.
 pub fn offer_nens_below(
     start: Score,
     c: Candidate,

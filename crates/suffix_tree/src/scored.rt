@@ -16,8 +16,8 @@ use irv_base::{Candidate, Memory};
 use set_tallies::Tallies;
 use std::cmp::Ordering;
 
-/// A suffix, the greatest margin of a true assertion that refutes it, and the first assertion, in the fixed order, that has it. If
-/// nothing true refutes the suffix, they are 0 and none.
+/// A suffix, the greatest margin of a true assertion that refutes it, and the first assertion, in the fixed order, that has this
+/// margin. If no true assertion refutes the suffix, these are 0 and none.
 #[derive(Drop)]
 pub struct Scored {
     /// The suffix, with the number of candidates.
@@ -28,7 +28,7 @@ pub struct Scored {
     pub by: Option<Assertion>,
 }
 
-// Which of two lists comes first, both read backwards.
+// Which of two lists comes first when both are read backwards.
 fn cmp_backwards(a: &[Candidate], b: &[Candidate]) -> Ordering
     ensures { result ≡ slice_cmp nat_cmp (reverse a.now) (reverse b.now) }
 {
@@ -113,8 +113,8 @@ fn child_score(parent: &Scored, c: Candidate, tallies: &mut Tallies) -> Result<S
     }
 }
 
-/// The suffix with one more candidate in front, scored from the one without: the candidate adds the NEBs over it of those outside, and
-/// its NENs over those after it, from one row of tallies. The one error is want of memory.
+/// Returns the suffix with one more candidate in front, scored from the suffix without it. The candidate adds the NEBs over it of
+/// those outside, and its NENs over those after it, from one row of tallies. The only error is lack of memory.
 pub fn child(parent: &Scored, c: Candidate, tallies: &mut Tallies) -> Result<Scored, Memory>
     requires below { c < parent.now.tail.n }
     requires other { IsFalse (is_in parent.now.tail.list c) }
@@ -132,8 +132,8 @@ pub fn child(parent: &Scored, c: Candidate, tallies: &mut Tallies) -> Result<Sco
     })
 }
 
-/// The suffix `t` with its score, over the records of the tallies: what RAIRE's search asks of each suffix, exactly and not as a bound.
-/// Its one error is want of memory.
+/// Returns the suffix `t` with its score over the records of the tallies: what RAIRE's search needs for each suffix, as an exact
+/// value and not as a bound. The only error is lack of memory.
 pub fn score(t: &Tail, tallies: &mut Tallies) -> Result<Scored, Memory>
     requires { t.now.n ≡ tallies.old.bag.n }
     ensures tail { IfOk result (λ s. s.tail ≡ t.now) }

@@ -8,10 +8,10 @@ ghost use Rattle.suffix_tree.specs.Suffixes.{with_front, whole};
 use irv_base::{CandSet, Candidate, Order, Suffix};
 use std::marker::Model;
 
-/// The last candidates of an elimination order, first eliminated first, so the winner is last, in a contest of `n` candidates. It grows
-/// at its front.
+/// The last candidates of an elimination order, first eliminated first, so the winner is last, in a contest with `n` candidates. It
+/// grows at its front.
 ///
-/// To a contract it is the list of these candidates, with the number of candidates of the contest.
+/// In a contract, it is the list of these candidates, with the number of candidates of the contest.
 #[derive(Clone, Copy)]
 pub struct Tail {
     n: u32,
@@ -32,7 +32,7 @@ impl Model for Tail {
 }
 
 impl Tail {
-    // No candidate yet, of a contest with `n` candidates.
+    // Starts with no candidates, in a contest with `n` candidates.
     pub(crate) fn none(n: u32) -> Tail
         requires some { 1 ≤ n }
         requires room { n ≤ ROOM }
@@ -45,7 +45,7 @@ impl Tail {
         }
     }
 
-    /// The winner alone, of a contest with `n` candidates.
+    /// The suffix with only the winner, in a contest with `n` candidates.
     pub fn last(n: u32, c: Candidate) -> Tail
         requires room { n ≤ ROOM }
         requires below { c < n }
@@ -55,7 +55,7 @@ impl Tail {
         Tail::none(n).front(c)
     }
 
-    /// The suffix of these candidates, of a contest with `n` candidates.
+    /// The suffix with these candidates, in a contest with `n` candidates.
     pub fn of(n: u32, list: &[Candidate]) -> Tail
         requires some { 1 ≤ n }
         requires room { n ≤ ROOM }
@@ -66,7 +66,7 @@ impl Tail {
         Tail::none(n).fronts(list)
     }
 
-    /// The suffix with `c` eliminated before all of it.
+    /// Returns the suffix with `c` eliminated before all its candidates.
     pub fn front(&self, c: Candidate) -> Tail
         requires below { c < self.now.n }
         requires other { IsFalse (is_in self.now.list c) }
@@ -78,7 +78,7 @@ impl Tail {
         }
     }
 
-    /// The suffix with these candidates eliminated before all of it, first eliminated first.
+    /// Returns the suffix with these candidates eliminated before all its own, first eliminated first.
     pub fn fronts(&self, list: &[Candidate]) -> Tail
         requires { IsTrue (is_suffix self.now.n (list.now ++ self.now.list)) }
         ensures number { result.n ≡ self.now.n }
@@ -93,7 +93,7 @@ impl Tail {
         tail
     }
 
-    /// Its candidates, first eliminated first.
+    /// The candidates, first eliminated first.
     pub fn list(&self) -> &[Candidate]
         ensures same { result.now ≡ self.now.list }
         ensures suffix { IsTrue (is_suffix self.now.n self.now.list) }
@@ -101,21 +101,21 @@ impl Tail {
         self.suffix.list()
     }
 
-    /// The order that it is, if it has all candidates of the contest.
+    /// Returns the suffix as an order, if it has all candidates of the contest.
     pub fn whole(&self) -> Option<Order>
         ensures { result ≡ whole self.now }
     {
         self.suffix.whole(self.n)
     }
 
-    /// Has it all candidates of the contest?
+    /// Whether the suffix has all candidates of the contest.
     pub fn is_whole(&self) -> bool
         ensures { result ≡ (length self.now.list == self.now.n) }
     {
         self.suffix.len() == self.n
     }
 
-    /// How many candidates the contest has.
+    /// The number of candidates in the contest.
     pub fn candidates(&self) -> u32
         ensures same { result ≡ self.now.n }
         ensures some { 1 ≤ result }
@@ -124,14 +124,14 @@ impl Tail {
         self.n
     }
 
-    /// The set of its candidates.
+    /// The set of the candidates in the suffix.
     pub fn set(&self) -> CandSet
         ensures { result ≡ set_of self.now.list }
     {
         self.suffix.set()
     }
 
-    /// Is the candidate in it?
+    /// Whether the candidate is in the suffix.
     pub fn has(&self, c: Candidate) -> bool
         ensures { result ≡ is_in self.now.list c }
     {

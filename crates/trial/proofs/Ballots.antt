@@ -1,10 +1,10 @@
--- One choice more, one ballot more, and whom a ballot ranks.
+-- One more choice, one more ballot, and whom a ballot ranks.
 use Rattle.std.proofs.Common.{◌≡◌, ℕ, zero, suc, ◌+◌, ◌-◌, ◌*◌, ◌%◌, ◌<◌, min, Bool, true, false, cond, List, [], ◌∷◌, ◌++◌, All, length, fold, refl, ap, arith, mod-lt}
 use Rattle.std.proofs.lemmas.List.Elements.{All-push, All-cons}
 use Rattle.irv_base.specs.Candidates.{is_in}
 use Rattle.trial.specs.Records.{drawn, next, after, places_of, chosen, with_choice, ballot, ballots_from}
 
--- ---- one choice more
+-- ---- one more choice
 pub chosen-step : (n places i state : ℕ) → i < places → chosen n (places - i) state ≡ min (drawn state % n) (drawn (next state) % n) ∷
     chosen n (places - (i + 1)) (after 2 state)
 chosen-step n places i state l =
@@ -22,7 +22,7 @@ pushed old new c added kept = go (is_in old c) refl where
   go true e = kept e
   go false e = added e
 
--- ---- one ballot more
+-- ---- one more ballot
 pub ballots-step : (n ballots i state : ℕ) → i < ballots → ballots_from n (ballots - i) state ≡ ballot n state ∷
     ballots_from n (ballots - (i + 1)) (after (1 + 2 * places_of n state) state)
 ballots-step n ballots i state l =

@@ -8,7 +8,7 @@ FirstDraws =
     drawn 0 ∷ drawn (after 1 0) ∷ drawn (after 2 0) ∷ drawn (after 3 0) ∷ []
     ≡ 167951807 ∷ 218396424 ∷ 1299921937 ∷ 861605236 ∷ []
 
--- two places are drawn; at both the smaller is candidate 0, who counts once
+-- two places are drawn; candidate 0 is the smaller at both, and counts once
 abbrev pub OneBallot : Type 0
 OneBallot = trial_records 0 2 1 ≡ (0 ∷ []) ∷ []
 

@@ -1,4 +1,4 @@
--- The records of a trial, by a linear congruential generator (D. E. Knuth's multiplier for 64 bits). Its state is a number below 2 ^ 64.
+-- The records of a trial, drawn by a linear congruential generator (D. E. Knuth's 64-bit multiplier). Its state is a number below 2 ^ 64.
 use Rattle.std.specs.Prelude.{ℕ, zero, suc, ◌+◌, ◌*◌, ◌/◌, ◌%◌, ◌^◌, min, List, [], ◌∷◌, ◌++◌, if◌then◌else◌, fold}
 use Rattle.irv_base.specs.Candidates.{is_in}
 use Rattle.trial.specs.declared.draws.TheConstants.{MULTIPLIER, INCREMENT, DROPPED_BITS}
@@ -8,7 +8,7 @@ use Rattle.trial.specs.declared.draws.TheConstants.{MULTIPLIER, INCREMENT, DROPP
 abbrev pub next : ℕ → ℕ
 next state = (state * MULTIPLIER + INCREMENT) % 2 ^ 64
 
--- what the first draw from this state answers
+-- the number that the first draw from this state gives
 abbrev pub drawn : ℕ → ℕ
 drawn state = next state / 2 ^ DROPPED_BITS
 
@@ -19,28 +19,28 @@ after (suc draws) state = after draws (next state)
 
 -- ---- a ballot
 
--- how many places it has: the first draw decides
+-- the number of places on it, which the first draw decides
 abbrev pub places_of : ℕ → ℕ → ℕ
 places_of n state = 1 + drawn state % n
 
--- the candidates of this many places, each the smaller of two that are drawn
+-- the candidates in this many places, each of which is the smaller of two that are drawn
 abbrev pub chosen : ℕ → ℕ → ℕ → List ℕ
 chosen n zero state = []
 chosen n (suc places) state =
     min (drawn state % n) (drawn (next state) % n) ∷ chosen n places (after 2 state)
 
--- a ranking with a candidate put at its end, unless it is there already
+-- a ranking with a candidate added at its end, unless the candidate is already there
 abbrev pub with_choice : List ℕ → ℕ → List ℕ
 with_choice ranking c = if is_in ranking c then ranking else ranking ++ c ∷ []
 
--- a repeated candidate is dropped
+-- a ranking without repeated candidates
 abbrev pub ranking_of : List ℕ → List ℕ
 ranking_of choices = fold with_choice [] choices
 
 abbrev pub ballot : ℕ → ℕ → List ℕ
 ballot n state = ranking_of (chosen n (places_of n state) (next state))
 
--- ---- the records: this many ballots, one after the other
+-- ---- the records: this many ballots, in order
 
 abbrev pub ballots_from : ℕ → ℕ → ℕ → List (List ℕ)
 ballots_from n zero state = []

@@ -4,18 +4,18 @@ ghost use Rattle.trial.specs.Records.{next, drawn};
 
 use std::marker::Model;
 
-/// What the state is multiplied by at each draw.
+/// The factor by which each draw multiplies the state.
 pub const MULTIPLIER: u64 = 6_364_136_223_846_793_005;
 
-/// What is then added to the state, at each draw.
+/// The number that each draw then adds to the state.
 pub const INCREMENT: u64 = 1_442_695_040_888_963_407;
 
-/// How many low bits of the new state are no part of the number drawn.
+/// The number of low bits of the new state that aren't part of the number drawn.
 pub const DROPPED_BITS: u32 = 33;
 
-/// A generator of numbers: a linear congruential one, modulo `2 ^ 64`.
+/// A linear congruential generator of numbers, modulo `2 ^ 64`.
 ///
-/// To a contract it is its state.
+/// In a contract, it is its state.
 #[derive(Drop)]
 pub struct Draws {
     state: u64,
@@ -30,7 +30,7 @@ impl Model for Draws {
 }
 
 impl Draws {
-    /// The generator that starts from this number.
+    /// Makes a generator that starts from this number.
     pub fn new(number: u32) -> Draws
         ensures { result ≡ number }
     {
@@ -39,7 +39,7 @@ impl Draws {
         }
     }
 
-    /// The next number.
+    /// Returns the next number.
     pub fn next(&mut self) -> u32
         ensures number { result ≡ drawn self.old }
         ensures state { self.new ≡ next self.old }

@@ -11,12 +11,12 @@ pub fn one_ballot()
     ensures { OneBallot }
 {}
 
-/// There are as many records as were asked for.
+/// There are as many records as requested.
 pub fn has_ballots()
     ensures { HasBallots }
 {}
 
-/// A record ranks candidates of the contest.
+/// Every record ranks only candidates of the contest.
 pub fn ranks_candidates()
     ensures { RanksCandidates }
 {}

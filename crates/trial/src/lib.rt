@@ -1,4 +1,4 @@
-//! The records of a trial: ballots that a generator draws from a number, the same ones each time.
+//! The records of a trial: ballots that a generator draws from a number. The same number always gives the same ballots.
 #![tactic(auto)]
 
 mod draws;

@@ -33,7 +33,7 @@ fn drawn_ballot(draws: &mut Draws, n: u32) -> Ranking
     ranking
 }
 
-/// The records of the trial with this number: this many ballots over `n` candidates, as the generator draws them.
+/// Returns the records of the trial with this number: this many ballots over `n` candidates, as the generator draws them.
 pub fn trial_records(alloc: Global, number: u32, n: u32, ballots: u32) -> Result<Rankings, Memory>
     requires some { 0 < n }
     requires room { n ≤ ROOM }

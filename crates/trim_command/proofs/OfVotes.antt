@@ -1,4 +1,4 @@
--- What a trim says of votes, it says of the ballots that they are of.
+-- What a trim says of votes, it also says of the ballots that have these votes.
 use Rattle.budget.specs.declared.budget.Budget.{Budget}
 use Rattle.ballots.specs.Ballots.{BallotFile, votes_of}
 use Rattle.assertion_file.specs.Content.{Content}

@@ -1,4 +1,4 @@
--- A trim comes to one end, and to that of a check where the file isn't accepted.
+-- A trim has one end, which is that of a check if the file isn't accepted.
 use Rattle.std.proofs.Common.{◌≡◌, ◌≢◌, inl, inr, ℕ, ◌+◌, ◌<◌, List, [], ◌∷◌, ◌++◌, length, map, Option, None, Some, Result, Ok, Err, refl, sym, ap, subst, arith, ◌∙◌}
 use Rattle.assertions.specs.declared.assertion.Claim.{Claim}
 use Rattle.budget.specs.declared.budget.Budget.{Budget}
@@ -79,13 +79,13 @@ pub kinds_are : (task : TrimTask) → AreOfKind kinds (script task)
 kinds_are task = λ bytes. go_on-kinds kinds (told (refused_ballots task.ballots) (ballots_of bytes task.contest)) _
     (told-only (refused_ballots task.ballots) (ballots_of bytes task.contest) (λ why. tt)) (λ ballots. ballots-kinds task.assertions task.budget ballots)
 
--- ---- what a check came to
+-- ---- how a check ended
 
 -- the status of a verdict
 abbrev status : Verdict → ℕ
 status verdict = (outcome verdict).status
 
--- it is yes exactly where the checker accepts the file
+-- the status is yes exactly if the checker accepts the file
 pub done-accepted : (budget : Budget) (ballots : BallotFile) (file : Content) (verdict : Verdict) → Checks budget ballots file verdict → status verdict ≡ 0 →
     IsAnswer budget ballots file (Ok Accepted)
 done-accepted budget ballots file verdict (answer, is, told) zero' = go answer is told where
@@ -123,7 +123,7 @@ other-checked budget ballots file verdict (answer, is, told) ne = (answer, is, g
   go (Err (CheckSpentSets sets)) told = told
   go (Err CheckMemory) told = told
 
--- ---- a spent trial names a candidate
+-- ---- a trial that is out of budget names a candidate
 
 module _ (budget : Budget) (file : Content) where
   trial-below : (number claim last : ℕ) (own : Claim) (later : List Claim) (r : Result CoverVerdict CoverFault) →
@@ -152,7 +152,7 @@ module _ (budget : Budget) (file : Content) where
     go (Ok left) f e = cc
     go (Err fault) f e = let same : fault ≡ TrimSpent claim last = cc in left-below [] file.claims claim last (f ∙ ap Err same)
 
--- ---- what comes of a check
+-- ---- what follows from a check
 
 pub done-answer : (budget : Budget) (ballots : BallotFile) (file : Content) (due : Outcome) → IsOneOrMemory (Checks budget ballots file) due → due.status ≡ 0 →
     IsAnswer budget ballots file (Ok Accepted)
@@ -162,7 +162,7 @@ done-answer budget ballots file due (inr memory) zero' =
     let nine : due.status ≡ 9 = ap (λ (o : Outcome). o.status) memory in
     absurd (omega (arith, nine, zero'))
 
--- what is told of a file that was read
+-- what is said of a file that was read
 pub told-ok : {A Why : Type 0} (words : Why → Verdict) (read : Result A Why) (value : A) → told words read ≡ Ok value → read ≡ Ok value
 told-ok words (Ok other) value e = let same : other ≡ value = cc in ap Ok same
 told-ok words (Err why) value e = cc

@@ -1,4 +1,4 @@
--- `trim BALLOTS ASSERTIONS`: an assertion file that a check accepts, without the claims that can go.
+-- `trim BALLOTS ASSERTIONS`: an assertion file that a check accepts, without the claims that can be removed.
 use Rattle.std.specs.Prelude.{◌≡◌, ℕ, List, [], ◌∷◌, Option, None, Some, Result, Ok, Err}
 use Rattle.budget.specs.declared.budget.Budget.{Budget}
 use Rattle.ballots.specs.Ballots.{BallotFile}
@@ -31,7 +31,7 @@ trim_verdict file (Err (SpentAt claim last)) =
 trim_verdict file (Err (SpentSets claim sets)) = Some (Answered Spent (spent_sets sets))
 trim_verdict file (Err Memory) = None
 
--- a file that the checker accepts is trimmed; of every other answer the verdict is that of `check`
+-- a file that the checker accepts is trimmed; for every other answer the verdict is that of `check`
 abbrev pub verdict_on : Budget → Content → Answer → Option Verdict
 verdict_on budget file (Ok Accepted) = trim_verdict file (trimmed budget file)
 verdict_on budget file answer = check_verdict file answer

@@ -1,4 +1,4 @@
-//! The command that trims: an assertion file that a check accepts, without the claims that can go. It uses no search.
+//! The command that trims: it prints an assertion file that a check accepts, without the claims that can be removed. It uses no search.
 #![tactic(auto)]
 
 pub mod trim;

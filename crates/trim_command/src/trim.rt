@@ -1,4 +1,4 @@
-// `trim BALLOTS ASSERTIONS`: an assertion file that a check accepts, without the claims that can go.
+// `trim BALLOTS ASSERTIONS`: an assertion file that a check accepts, without the claims that can be removed.
 ghost use Rattle.std.specs.Prelude.{◌≡◌, ◌≤◌, Ok, Some};
 ghost use Rattle.desk.specs.Count.{Rose};
 ghost use Rattle.ballots.specs.Ballots.{BallotFile, votes_of};
@@ -27,7 +27,7 @@ use std::alloc::Global;
 use std::thread::Threads;
 use trimmer::{TrimFault, trim};
 
-/// The assertion file without the claims that can go, if a check accepts it; otherwise what the check says.
+/// The assertion file without the claims that can be removed, if a check accepts it; otherwise what the check says.
 pub fn answer<R: AllocGlobal + Threads + Sync, D: Desk>(
     rt: &R,
     desk: &mut D,
@@ -47,7 +47,7 @@ pub fn answer<R: AllocGlobal + Threads + Sync, D: Desk>(
     after_votes(rt, desk, &votes, &task.assertions, task.budget)
 }
 
-// The same of votes that are read.
+// The same for votes that have been read.
 fn after_votes<R: AllocGlobal + Threads + Sync, D: Desk>(
     rt: &R,
     desk: &mut D,
@@ -69,7 +69,7 @@ fn after_votes<R: AllocGlobal + Threads + Sync, D: Desk>(
     of_file(rt, votes, &file, budget)
 }
 
-// The same of a file that is read.
+// The same for a file that has been read.
 fn of_file<R: AllocGlobal + Threads + Sync>(
     rt: &R,
     votes: &Votes,
@@ -87,7 +87,7 @@ fn of_file<R: AllocGlobal + Threads + Sync>(
     }
 }
 
-// The answer to a file that the checker accepts.
+// The answer for a file that the checker accepts.
 fn accepted(alloc: Global, file: &AssertionFile, budget: Budget) -> Result<Answer, Refusal>
     requires { covered_is (candidate_count file.now) file.now.winner (assertions_of file.now) budget
         ≡ Ok Covered }

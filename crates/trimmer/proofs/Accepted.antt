@@ -1,4 +1,4 @@
--- A trimmed file is accepted where the file that was read is.
+-- A trimmed file is accepted if the file that was read is.
 use Rattle.std.proofs.Common.{◌≡◌, ℕ, ◌≤◌, List, [], ◌∷◌, length, map, Option, Some, None, Ok, All, Contains, refl, sym, ap, subst, arith, true, ◌∙◌}
 use Rattle.std.specs.Prelude.{option_map, IfSome}
 use Rattle.std.proofs.lemmas.List.Elements.{All-contains}
@@ -37,7 +37,7 @@ all-part P {part} {whole} p h = all-from_members P part (λ claim m. All-contain
 abbrev margin_in : Claim → ℕ
 margin_in claim = claim.margin
 
--- claims that cover are some
+-- claims that cover aren't empty
 pub some-claim : (file : Content) (claims : List Claim) → IsSound file →
     covers (candidate_count file) file.winner (map assertion_in claims) ≡ true → (claim : Claim) × Contains claims claim
 some-claim file claims sound covering =
@@ -59,7 +59,7 @@ module _ (ballots : BallotFile) (file : Content) (claims : List Claim) (sound : 
       let (a, k, r) = from_covers (candidate_count file) file.winner (map assertion_in claims) order covering m in
       refuting_claim claims order a k r
 
-  -- the file's order is refuted by a claim of its margin: no true assertion that refutes it has a larger one
+  -- a claim with the file's margin refutes the file's order, since no true assertion that refutes it has a larger margin
   reached_by : (order : List ℕ) → IsHardest ballots file order → (claim : Claim) × Contains claims claim × (claim.margin ≡ file.margin)
   reached_by order hard =
       let (claim, k, r) = refuted order hard.alternative in
@@ -109,7 +109,7 @@ module _ (ballots : BallotFile) (file : Content) (claims : List Claim) (sound : 
         draws = planned;
       }
 
--- what is left of claims that cover is some
+-- what is left of claims that cover isn't empty
 pub some-left : (budget : Budget) (file : Content) (left : List Claim) → IsSound file → left_of budget file [] file.claims ≡ Ok left →
     covered_by budget file file.claims ≡ Ok Covered → 1 ≤ length left
 some-left budget file left sound e h =
@@ -122,7 +122,7 @@ some-left budget file left sound e h =
     by [] (claim, k) = absurd (member_nil (member-from_contains claim [] k))
     by (first ∷ left) found = omega arith
 
--- the margin of what is left is one among the records
+-- the margin of what is left is a margin for these records
 pub sound-margin : (file : Content) (claims : List Claim) → IsMargin file.records file.margin → 1 ≤ length claims →
     All (IsSoundClaim (candidate_count file) file.records) claims → IsMargin file.records (margin_left file claims)
 sound-margin file claims own some sound = by file.order claims some sound where
@@ -135,7 +135,7 @@ sound-margin file claims own some sound = by file.order claims some sound where
       let (claim, k, e) = from_map margin_in (least (map margin_in all)) all (least_is (member-map margin_in {x = first} here)) in
       subst (IsMargin file.records) e (All-contains (IsSoundClaim (candidate_count file) file.records) all claim sound (contains-from_member k)).margin
 
--- the clean draws of all claims are so of those that are left
+-- if the draws of all claims are their clean draws, so are those of the claims that are left
 clean-left : (budget : Budget) (file : Content) (left : List Claim) → left_of budget file [] file.claims ≡ Ok left → HasCleanDraws file →
     IfSome (plan_left budget file) (IsPlanOf left)
 clean-left budget file left e has = by file.plan has where

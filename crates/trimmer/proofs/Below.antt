@@ -1,4 +1,4 @@
--- What ends in a suffix, and isn't refuted as little as it is.
+-- What ends in a suffix and, like it, isn't refuted.
 use Rattle.std.proofs.Common.{◌≡◌, inl, inr, ℕ, zero, suc, ◌-◌, ◌<◌, Bool, true, false, not, ◌&&◌, ◌||◌, ◌==◌, if◌then◌else◌, List, [], ◌∷◌, length, drop, get_or, Option, Some, refl, sym, ap, ap₂, arith, eqb-true, ◌∙◌}
 use Rattle.std.specs.List.{list_any}
 use Rattle.std.proofs.lemmas.Bool.{cases_Bool, cases_eq, both_ways, false_from_ne_true, not-true, or_cases, and_right, or_right, or_left}

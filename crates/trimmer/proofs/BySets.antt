@@ -1,4 +1,4 @@
--- With a number of sets nothing else stops a trim than that they are spent.
+-- With a budget of sets, only running out of sets stops a trim.
 use Rattle.std.proofs.Common.{◌≡◌, ℕ, ◌+◌, Bool, true, false, if◌then◌else◌, nat_lt, List, [], ◌∷◌, ◌++◌, length, map, Option, None, Some, Result, Ok, Err, refl, sym, ◌∙◌}
 use Rattle.budget.specs.declared.budget.Budget.TheVariants.{Sets}
 use Rattle.assertions.specs.declared.assertion.Assertion.{Assertion}
@@ -16,7 +16,7 @@ fault-of claim later (Ok goes) fault e = absurd (cc e)
 fault-of claim later (Err other) fault e = let same : other ≡ fault = cc e in λ i. Err (same i)
 
 module _ (sets : ℕ) (file : Content) where
-  -- the sets are spent at some claim
+  -- the sets run out at some claim
   abbrev AreSpent : TrimFault → Type 0
   AreSpent fault = (claim : ℕ) × (fault ≡ SpentSets claim sets)
 

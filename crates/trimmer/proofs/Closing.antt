@@ -1,4 +1,4 @@
--- The sets that are reached are those that every step that passes stays among.
+-- The sets that are reached are those that no passing step leaves.
 use Rattle.std.proofs.Common.{◌≡◌, ◌≢◌, inl, inr, ℕ, ◌+◌, ◌^◌, ◌<◌, ◌≤◌, Bool, true, false, nat_lt, if◌then◌else◌, List, [], ◌∷◌, ◌++◌, length, Option, Some, None, Ok, Err, Contains, refl, sym, ap, subst, arith, le_trans, ◌∙◌}
 use Rattle.std.proofs.lemmas.Bool.{and_parts, cases_lt}
 use Rattle.std.specs.List.{range_with_len}
@@ -22,7 +22,7 @@ use Rattle.cover_checker.specs.declared.walk.SetWalk.TheVariants.{Ended}
 use Rattle.trimmer.specs.Spreading.{IsStart}
 use Rattle.trimmer.proofs.Standing.{stepped, short-stands, whole-walks, first-walks, not-longer}
 
--- the sets stand, and each step that passes from one of them, or from nobody's, comes to one of them
+-- the sets stand, and each step that passes from one of them, or from the empty set, leads to one of them
 pub record Closed (n winner : ℕ) (goes : ℕ → ℕ → Bool) (reached : List ℕ) : Type 0 where
   pub stand : (set : ℕ) → Contains reached set → Contains (standing n winner goes) set
   pub closed : (set c : ℕ) → IsStart winner reached set c → c < n → has set c ≡ false → goes set c ≡ true → Contains reached (more set c)

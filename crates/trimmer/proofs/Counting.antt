@@ -1,4 +1,4 @@
--- How often a list says what, once it has an assertion more or less.
+-- The number of times that a list says each thing, when an assertion is added or removed.
 use Rattle.std.proofs.Common.{◌≡◌, inl, inr, ℕ, ◌+◌, ◌-◌, ◌≤◌, nat_lt, cond, Bool, true, false, ◌&&◌, ◌||◌, ◌==◌, List, [], ◌∷◌, ◌++◌, length, Option, Some, unwrap_or, refl, sym, ap, ap₂, arith, eq-eqb, eqb-true, ◌∙◌}
 use Rattle.std.specs.BTreeMap.{get}
 use Rattle.std.specs.List.{list_any}
@@ -52,7 +52,7 @@ same-place (Nen w l s) (Neb v k) = refl
 same-place (Nen w l s) (Nen v k t) =
     twice (w == v) (s == t) ∙ pair-turned (w == v) (s == t) ∙ ap₂ (λ x y. x && y) (eq-turned s t) (eq-turned w v)
 
--- they stand at one place of a map
+-- they have the same key in a map
 pub place-is : (a b : Assertion) → is_eq (fixed_order (alike a) (alike b)) ≡ is_alike a b
 place-is a b = sym (matches_fixed (alike a) (alike b)) ∙ same-place a b
 
@@ -103,7 +103,7 @@ times-any a (c ∷ list) = go (is_alike a c) (times-any a list) where
   go true ih = more-than-none (times a list)
   go false ih = ap (nat_lt 0) (no-more (times a list)) ∙ ih
 
--- ---- a number is put down
+-- ---- storing a number
 chosen-count : (b : Bool) (k : ℕ) (o : Option ℕ) → unwrap_or (cond b (Some k) o) 0 ≡ cond b k (unwrap_or o 0)
 chosen-count true k o = refl
 chosen-count false k o = refl
@@ -144,7 +144,7 @@ module _ (a : Assertion) (old new : Counted) (number : ℕ)
         | inr e ↦ ap (λ b. cond b number (count_in old c)) e ∙ h c ∙ with-own c false e ∙ no-more (times c (before ++ after))
       ]
 
--- ---- the index once an assertion is gone
+-- ---- the index after an assertion is removed
 module _ (a : Assertion) (before after : List Assertion) (number : ℕ) (left : number ≡ times a (before ++ after)) where
   still-said : (said : Assertion) (was now : Bool) → now ≡ cond (is_alike said a) (nat_lt 0 number) was →
       was ≡ list_any (is_alike said) (before ++ a ∷ after) → now ≡ list_any (is_alike said) (before ++ after)

@@ -1,4 +1,4 @@
--- How what is left of the draws goes on from what is left of those behind.
+-- How what is left of the draws follows from what is left of the later ones.
 use Rattle.std.proofs.Common.{◌≡◌, ℕ, ◌+◌, ◌<◌, Bool, true, false, if◌then◌else◌, List, [], ◌∷◌, ◌++◌, length, get_or, take, drop, reverse, All, Option, Some, None, Ok, sym, ap, ap₂, subst, arith, ◌∙◌}
 use Rattle.std.specs.Prelude.{option_map, slice_index_or, IfSome}
 use Rattle.std.proofs.lemmas.List.{drop_more, take_more, drop_all, length-take-le, reverse-append}
@@ -15,7 +15,7 @@ pub shown-some : {F : Type 0} (shown : F → Plan) (P : Plan → Type 0) (facts 
 shown-some shown P None plan e h = subst (λ plan. IfSome plan P) e tt
 shown-some shown P (Some f) plan e h = subst (λ plan. IfSome plan P) e h
 
--- a plan of a file has draws for each claim
+-- the plan of a file has draws for each claim
 pub fits-at : {F : Type 0} (shown : F → Plan) (records claims i : ℕ) (facts : Option F) → i < claims →
     IfSome facts (λ f. IsSoundPlan records claims (shown f)) → IfSome facts (λ f. i < length (shown f).draws)
 fits-at shown records claims i None within h = tt
@@ -49,14 +49,14 @@ module _ (budget : Budget) (file : Content) (claims : List Claim) where
   draws-start n (Some plan) left e none =
       ap (λ later. draws_left budget file (take n claims) later (drop n plan.draws)) (drop_all n claims (omega arith)) ∙ ap reverse (sym none)
 
-  -- where a claim goes
+  -- if a claim is dropped
   pub draws-gone : (i : ℕ) (d : Claim) (plan : Option Plan) (left : List Claim) (draws : List (Option ℕ)) → i < length claims →
       IfSome plan (λ plan. i < length plan.draws) → left_from budget file claims (i + 1) ≡ Ok left → Ok true ≡ trial budget file claims i left →
       IfSome plan (AreLeft (i + 1) draws) → IfSome plan (AreLeft i draws)
   draws-gone i d None left draws l k h told behind = tt
   draws-gone i d (Some plan) left draws l k h told behind = next i d None plan.draws left true l k h told ∙ behind
 
-  -- where it is kept
+  -- if it is kept
   pub draws-kept : (i : ℕ) (d : Claim) (plan : Option Plan) (left : List Claim) (draws pushed : List (Option ℕ)) → i < length claims →
       IfSome plan (λ plan. i < length plan.draws) → left_from budget file claims (i + 1) ≡ Ok left → Ok false ≡ trial budget file claims i left →
       IfSome plan (AreLeft (i + 1) draws) → IfSome plan (λ plan. pushed ≡ draws ++ slice_index_or plan.draws i None ∷ []) → IfSome plan (AreLeft i pushed)
@@ -66,7 +66,7 @@ module _ (budget : Budget) (file : Content) (claims : List Claim) where
       next i d None plan.draws left false l k h told ∙ ap (λ later. own ∷ later) behind
       ∙ sym (reverse-append draws (own ∷ [])) ∙ ap reverse (sym more)
 
-  -- once all have been tried
+  -- after all claims have been tried
   pub draws-end : (j : ℕ) (plan : Option Plan) (left turned : List (Option ℕ)) → 0 ≡ j → turned ≡ reverse left → IfSome plan (AreLeft j left) →
       IfSome plan (λ plan. draws_left budget file [] claims plan.draws ≡ turned)
   draws-end j plan left turned none same h =

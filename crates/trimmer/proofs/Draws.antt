@@ -1,4 +1,4 @@
--- What is left of the draws of the claims that are left.
+-- What is left of the draws, for the claims that are left.
 use Rattle.std.proofs.Common.{◌≡◌, inl, inr, ℕ, suc, ◌+◌, ◌≤◌, List, [], ◌∷◌, ◌++◌, length, map, All, Option, Some, None, Ok, refl, sym, ap, subst, arith, ◌∙◌}
 use Rattle.std.specs.Prelude.{zip, option_map}
 use Rattle.std.proofs.lemmas.List.Elements.{All-nil, All-cons, All-head, All-tail}
@@ -24,7 +24,7 @@ part-short (kept p) = omega (arith, part-short p)
 part-short (dropped p) = omega (arith, part-short p)
 
 module _ (budget : Budget) (file : Content) where
-  -- the draws in front of what is left of the later ones, by what became of their claim
+  -- the draws in front of what is left of the later ones, depending on what happened to their claim
   when-gone : (earlier : List Claim) (claim : Claim) (later rest : List Claim) (d : Option ℕ) (draws : List (Option ℕ)) →
       left_of budget file (earlier ++ claim ∷ []) later ≡ Ok rest → covered_by budget file (earlier ++ rest) ≡ Ok Covered →
       draws_left budget file earlier (claim ∷ later) (d ∷ draws) ≡ draws_left budget file (earlier ++ claim ∷ []) later draws
@@ -39,7 +39,7 @@ module _ (budget : Budget) (file : Content) where
       let behind = draws_left budget file (earlier ++ claim ∷ []) later draws in
       ap (λ r. unless_gone d behind (trial budget file earlier r)) f ∙ ap (λ r. unless_gone d behind (can_go (length earlier + 1) r)) stays
 
-  -- each is with its claim
+  -- each draw is with its claim
   pub draws-part : (earlier later left : List Claim) (draws : List (Option ℕ)) → left_of budget file earlier later ≡ Ok left →
       IsPartOf (zip left (draws_left budget file earlier later draws)) (zip later draws)
   draws-part earlier [] left draws e = let same : [] ≡ left = cc in
@@ -60,7 +60,7 @@ module _ (budget : Budget) (file : Content) where
             (sym stays.0) (kept part))
       ]
 
-  -- as many are left as claims
+  -- there are as many draws left as claims
   pub draws-many : (earlier later left : List Claim) (draws : List (Option ℕ)) → left_of budget file earlier later ≡ Ok left → length draws ≡ length later →
       length (draws_left budget file earlier later draws) ≡ length left
   draws-many earlier [] left draws e each = let same : [] ≡ left = cc in ap (λ (left : List Claim). length left) same
@@ -99,7 +99,7 @@ module _ (budget : Budget) (file : Content) where
             (All-cons P d (draws_left budget file (earlier ++ claim ∷ []) later draws) (All-head P d draws h) more)
       ]
 
-  -- draws that each claim determines are so for those that are left
+  -- if each claim determines its draws, the same holds of the claims that are left
   pub draws-map : (of : Claim → Option ℕ) (earlier later left : List Claim) → left_of budget file earlier later ≡ Ok left →
       draws_left budget file earlier later (map of later) ≡ map of left
   draws-map of earlier [] left e = let same : [] ≡ left = cc in ap (map of) same
@@ -112,7 +112,7 @@ module _ (budget : Budget) (file : Content) where
             ∙ ap (map of) (sym stays.0)
       ]
 
-  -- where no claim goes, all draws are left
+  -- if no claim is dropped, all draws are left
   pub draws-stay : (earlier later : List Claim) (draws : List (Option ℕ)) → left_of budget file earlier later ≡ Ok later → length draws ≤ length later →
       draws_left budget file earlier later draws ≡ draws
   draws-stay earlier [] [] e few = refl
@@ -145,7 +145,7 @@ module _ (budget : Budget) (file : Content) where
     by None = tt
     by (Some plan) = refl
 
--- the plan of a trimmed file stays where none of its claims goes
+-- the plan of a trimmed file stays the same if none of its claims is dropped
 pub plan-stays : (budget : Budget) (file left : Content) → left_of budget file [] file.claims ≡ Ok left.claims → left.plan ≡ plan_left budget file →
     left_of budget left [] left.claims ≡ Ok left.claims → plan_left budget left ≡ left.plan
 plan-stays budget file left e planned whole = ap trimmed_again planned ∙ by file.plan ∙ sym planned where

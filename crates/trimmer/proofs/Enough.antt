@@ -1,4 +1,4 @@
--- With a budget that is enough no trial is spent.
+-- With a budget that is enough, no trial runs out.
 use Rattle.std.proofs.Common.{◌≡◌, ℕ, ◌+◌, List, [], ◌∷◌, ◌++◌, length, map, Result, Ok, Err, refl, arith}
 use Rattle.budget.specs.declared.budget.Budget.{Budget}
 use Rattle.budget.specs.declared.budget.Budget.TheVariants.{Nodes, Sets}

@@ -18,7 +18,7 @@ use Rattle.trimmer.specs.Trimmed.{covered_by, left_of, margin_left, margin_with,
 use Rattle.trimmer.proofs.Draws.{plan-stays}
 use Rattle.trimmer.proofs.Lefts.{IsTrimmed, assertion_in, fate, from_trimmed}
 
--- what no claim of a list refutes, none refutes of a list that has fewer
+-- if no claim of a list refutes an order, no claim of a list with fewer of them does
 pub stands-fewer : (more fewer : List Claim) (order : List ℕ) → ((claim : Claim) → Member claim fewer → Member claim more) →
     stands (map assertion_in more) order ≡ true → stands (map assertion_in fewer) order ≡ true
 stands-fewer more fewer order within h =
@@ -28,7 +28,7 @@ stands-fewer more fewer order within h =
     both_ways (list_any (λ a. refutes a order) (map assertion_in more)) (not-true (list_any (λ a. refutes a order) (map assertion_in more)) h)
     (list_any-member (λ a. refutes a order) {x = claim.assertion} (member-map assertion_in (within claim k)) (ap (λ a. refutes a order) e ∙ r))))
 
--- where an order stands, the list doesn't cover
+-- if an order stands, the list doesn't cover
 pub stands-uncovered : (n winner : ℕ) (claims : List Claim) (order : List ℕ) → IsAlternative n winner order → stands (map assertion_in claims) order ≡ true →
     covers n winner (map assertion_in claims) ≡ false
 stands-uncovered n winner claims order alternative h = false_from_ne_true (covers n winner (map assertion_in claims)) (λ covering.
@@ -53,7 +53,7 @@ module _ (budget : Budget) (file : Content) where
     | inr k ↦ member-append_right (earlier ++ claim ∷ []) k
   ]
 
-  -- each claim that is left was kept since an order stands without it; it does so all the more with fewer claims
+  -- each claim that is left was kept because an order stands without it; with fewer claims, that order still stands
   pub left-needed : (earlier later left : List Claim) → left_of budget file earlier later ≡ Ok left → (before : List Claim) (claim : Claim) (behind : List Claim) →
       left ≡ before ++ claim ∷ behind → Standing (earlier ++ (before ++ behind))
   left-needed earlier [] left e [] claim behind split = let same : [] ≡ left = cc in cc
@@ -108,7 +108,7 @@ part-member (kept {x = first} {part} {whole} p) claim m = elim (member_cases m) 
 ]
 part-member (dropped p) claim m = there (part-member p claim m)
 
--- a part that isn't all lacks one
+-- a part that isn't the whole lacks a claim
 abbrev pub Lacks : List Claim → List Claim → Type 0
 Lacks part whole = (before : List Claim) × (claim : Claim) × (behind : List Claim) × (whole ≡ before ++ claim ∷ behind)
     × ((other : Claim) → Member other part → Member other (before ++ behind))
@@ -143,7 +143,7 @@ no_part_covers budget file left e part p ne =
     (left-needed budget file [] file.claims left.claims (from_trimmed budget file left e).claims before claim behind split) in
     stands-uncovered (candidate_count file) file.winner part order alternative h
 
--- the margin of a trimmed file stays where none of its claims goes
+-- the margin of a trimmed file stays the same if none of its claims is dropped
 margin-stays : (budget : Budget) (file left : Content) → IsTrimmed budget file left → margin_left left left.claims ≡ left.margin
 margin-stays budget file left t =
     let order : left.order ≡ file.order = ap (λ (content : Content). content.order) t.same in

@@ -1,4 +1,4 @@
--- What is left of the later claims, once they have been tried.
+-- What is left of the later claims after they have been tried.
 use Rattle.std.proofs.Common.{◌≡◌, ◌⊎◌, inl, inr, ℕ, ◌+◌, List, [], ◌∷◌, ◌++◌, length, Result, Ok, Err, refl, sym, ap, subst, ◌∙◌, append_assoc}
 use Rattle.assertions.specs.declared.assertion.Assertion.{Assertion}
 use Rattle.budget.specs.declared.budget.Budget.{Budget}
@@ -15,7 +15,7 @@ use Rattle.trimmer.specs.Trimmed.{can_go, unless_it_goes, with_claims, covered_b
 abbrev pub assertion_in : Claim → Assertion
 assertion_in claim = claim.assertion
 
--- the others cover, and it is dropped, or an order stands, and it is kept
+-- the others cover and it is dropped, or an order stands and it is kept
 abbrev pub Goes : Claim → List Claim → List Claim → Result Verdict CoverFault → Type 0
 Goes claim later left result = (left ≡ later) × (result ≡ Ok Covered)
 
@@ -31,7 +31,7 @@ from_trial number claim later left (Err (CoverSpentSets sets)) e = cc
 from_trial number claim later left (Err CoverMemory) e = cc
 
 module _ (budget : Budget) (file : Content) where
-  -- what became of a claim that was tried after the later ones
+  -- what happened to a claim that was tried after the later ones
   abbrev pub Fate : List Claim → Claim → List Claim → List Claim → Type 0
   Fate earlier claim later left =
       Goes claim later left (covered_by budget file (earlier ++ later)) ⊎ Stays claim later left (covered_by budget file (earlier ++ later))

@@ -1,4 +1,4 @@
--- From the counts with a claim of a file to those without it.
+-- From the counts with a claim of a file to the counts without it.
 use Rattle.std.proofs.Common.{◌≡◌, ℕ, ◌+◌, ◌<◌, not, ◌&&◌, List, ◌++◌, length, map, take, get_or, Option, Some, Ok, ap, subst, ◌∙◌}
 use Rattle.budget.specs.declared.budget.Budget.TheVariants.{Nodes}
 use Rattle.assertions.specs.declared.assertion.Assertion.{Assertion}
@@ -15,7 +15,7 @@ use Rattle.trimmer.proofs.Lefts.{assertion_in}
 use Rattle.trimmer.proofs.Parted.{stands-parted, take-midst}
 use Rattle.trimmer.proofs.Trials.{next-counts, next-covered, next-stands}
 
--- what is scanned, by other names
+-- the scan, under other names
 pub scanned-moved : (nodes n m winner other : ℕ) (list same : List Assertion) (claim its : Option Assertion) (counts : List ℕ) (scan : Scan) →
     n ≡ m → winner ≡ other → list ≡ same → claim ≡ its → Scanned nodes n winner list claim counts scan → Scanned nodes m other same its counts scan
 scanned-moved nodes n m winner other list same claim its counts scan a b c d h =

@@ -1,4 +1,4 @@
--- What more is reached once an assertion is left out.
+-- What else is reached when an assertion is left out.
 use Rattle.std.proofs.Common.{◌≡◌, ◌⊎◌, inl, inr, ℕ, suc, ◌+◌, ◌<◌, ◌≤◌, Bool, true, false, not, ◌||◌, List, [], ◌∷◌, ◌++◌, length, length-append, map, get_or, Contains, refl, sym, ap, subst, arith, ◌∙◌}
 use Rattle.std.specs.List.{list_any}
 use Rattle.std.proofs.lemmas.Bool.{and_from, and_parts}
@@ -61,7 +61,7 @@ place-of x (y ∷ xs) m = go (member_cases m) (place-of x xs) where
   go (inl e) ih = (0, omega arith, e)
   go (inr k) ih = let (i, l, e) = ih k in (suc i, omega (arith, l), e)
 
--- what stands behind the first sets has a place from there on
+-- an element that comes after the first sets has an index from there on
 later-place : (xs ys : List ℕ) (x : ℕ) → Contains ys x → (i : ℕ) × (length xs ≤ i) × (i < length (xs ++ ys)) × (get_or (xs ++ ys) i 0 ≡ x)
 later-place xs ys x m =
     let (i, l, e) = place-of x ys (member-from_contains x ys m) in
@@ -76,7 +76,7 @@ module _ (n winner budget : ℕ) (before : List Assertion) (a : Assertion) (afte
   pub still-stand : AreStanding n winner (before ++ after) old
   still-stand set m = stands-without before a after n winner set (k.stand set m)
 
-  -- what was reached, what opened, and all that follows
+  -- what was reached, what opened, and everything that follows from it
   pub left-reached : AreStanding n winner (before ++ after) new → Extends old new → AreOpenedFollowed n winner a (before ++ after) old new →
       AreNewClosed n (before ++ after) old new → length new ≤ budget → AreReached n winner budget (before ++ after) new
   left-reached stand (more-sets, e) follows closed few =

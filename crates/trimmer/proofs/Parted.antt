@@ -1,4 +1,4 @@
--- A claim in the midst of others.
+-- A claim in the middle of others.
 use Rattle.std.proofs.Common.{◌≡◌, ℕ, ◌+◌, ◌<◌, Bool, true, false, not, ◌&&◌, ◌||◌, List, [], ◌∷◌, ◌++◌, length, map, take, get_or, refl, sym, ap, ◌∙◌, append_assoc}
 use Rattle.std.specs.List.{list_any}
 use Rattle.std.proofs.lemmas.List.{take_more}
@@ -38,7 +38,7 @@ stands-parted earlier claim later s =
     ∙ not-or (list_any (λ (claim : Claim). refutes claim.assertion s) (earlier ++ later)) (refutes claim.assertion s)
     ∙ ap (λ b. not b && not (refutes claim.assertion s)) (sym (any-map s (earlier ++ later)))
 
--- the claim at a place, behind the earlier ones
+-- the claim at an index, after the earlier ones
 pub take-midst : (claims : List Claim) (i : ℕ) (d : Claim) (later : List Claim) → i < length claims → take (i + 1) claims ++ later
     ≡ take i claims ++ get_or claims i d ∷ later
 take-midst claims i d later l = ap (λ front. front ++ later) (take_more claims i d l) ∙ append_assoc (take i claims) (get_or claims i d ∷ []) later

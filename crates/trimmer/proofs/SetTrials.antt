@@ -47,7 +47,7 @@ module _ (file : Content) (claims : List Claim) (number n winner sets : ℕ) (li
       subst (λ list. AreReached (candidate_count file) file.winner sets list reached) listed
       (subst (λ w. AreReached (candidate_count file) w sets list reached) same (subst (λ n. AreReached n winner sets list reached) count h))
 
--- where the claims cover a walk neither finds an order nor is spent
+-- if the claims cover, a walk neither finds an order nor runs out
 module _ (file : Content) (claims : List Claim) (n winner sets : ℕ) (list : List Assertion) (count : n ≡ candidate_count file)
     (same : winner ≡ file.winner) (listed : list ≡ map assertion_in claims) (covered : covered_by (Sets sets) file claims ≡ Ok Covered) where
   pub never-found : (order : List ℕ) → IsReach n winner sets (passes list) (Ok (Found order)) → ⊥

@@ -1,14 +1,14 @@
--- A walk of all that the others don't refute, beside one of what opens without a claim.
+-- A walk of everything that the others don't refute, alongside a walk of what opens without a claim.
 use Rattle.std.proofs.Common.{◌≡◌, ℕ, ◌+◌, ◌<◌, ◌≤◌, Bool, true, false, not, ◌&&◌, nat_lt, if◌then◌else◌, List, [], ◌∷◌, length, Result, Ok, Err, refl, sym, ap, subst, arith, ltb-true, ltb-false, ◌∙◌}
 use Rattle.suffix_walk.specs.Walks.{walked}
 use Rattle.suffix_walk.specs.declared.walk.Stop.{Stop}
 use Rattle.suffix_walk.specs.declared.walk.Stop.TheVariants.{Found, Spent}
 
--- what a walk comes to at its next suffix
+-- how a walk continues at its next suffix
 abbrev pub step : Bool → Bool → Bool → List ℕ → Result ℕ Stop → Result ℕ Stop → Result ℕ Stop
 step is_kept short room s next stay = if is_kept then (if short then (if room then next else Err Spent) else Err (Found s)) else stay
 
--- a count doesn't fall
+-- a count never decreases
 pub walked-rises : (n nodes : ℕ) (kept : List ℕ → Bool) (count : ℕ) (xs : List (List ℕ)) (k : ℕ) → walked n nodes kept count xs ≡ Ok k → count ≤ k
 walked-rises n nodes kept count [] k h = let same : count ≡ k = cc in omega arith
 walked-rises n nodes kept count (s ∷ xs) k h =
@@ -21,7 +21,7 @@ walked-rises n nodes kept count (s ∷ xs) k h =
     go true true false h next stay = cc
     go true true true h next stay = let le : count + 1 ≤ k = next h in omega arith
 
--- the walk of all comes to the same end, with the same count
+-- the walk of everything has the same end, with the same count
 abbrev pub Like : Result ℕ Stop → Result ℕ Stop → Type 0
 Like (Ok j) w = w ≡ Ok j
 Like (Err (Found order)) w = w ≡ Err (Found order)
@@ -31,7 +31,7 @@ module _ (n nodes : ℕ) (covered all by : List ℕ → Bool) (parted : (s : Lis
   abbrev opened : List ℕ → Bool
   opened s = all s && by s
 
-  -- covered: what counted before; a and b: the counts so far of both walks; the one has yet to count what was covered
+  -- covered: what was counted before; a and b: the counts of both walks so far; one walk has yet to count what was covered
   pub likens : (xs : List (List ℕ)) (e k a b : ℕ) → walked n nodes covered e xs ≡ Ok k → a + k ≡ b + e → b ≤ nodes → (r : Result ℕ Stop) →
       walked n nodes opened b xs ≡ r → Like r (walked n nodes all a xs)
   likens [] e k a b h le within r p =

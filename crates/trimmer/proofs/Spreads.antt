@@ -128,7 +128,7 @@ module _ (n winner budget : ℕ) (list : List Assertion) where
         | inr ge ↦ b i ge inside
       ]
 
-  -- a set that was put last, and what follows on it
+  -- a set that was appended, and what follows from it
   pub closed-entered : (old new : List ℕ) (set : ℕ) → Extends (old ++ set ∷ []) new → AreNewClosed n list (old ++ set ∷ []) new → IsClosedAt n list new set →
       AreNewClosed n list old new
   closed-entered old new set e later own i from inside =
@@ -149,7 +149,7 @@ module _ (n winner budget : ℕ) (list : List Assertion) where
     same : with_c ≡ more set c
     same = let e = number out in omega (arith, e)
 
-    -- that an assertion keeps out
+    -- a step that an assertion keeps out
     pub kept-out : (sets : List ℕ) (any : Bool) → any ≡ list_any (λ a. is_new a c with_c) list → any ≡ true → IsFollowed list sets set c
     kept-out sets any e kept passing =
         let passes-not : not any ≡ true = ap not e ∙ passes-is list set c with_c (number out) ∙ passing in
@@ -158,7 +158,7 @@ module _ (n winner budget : ℕ) (list : List Assertion) where
     pub passing : (any : Bool) → any ≡ list_any (λ a. is_new a c with_c) list → any ≡ false → passes list set c ≡ true
     passing any e free = sym (passes-is list set c with_c (number out)) ∙ ap not (sym e) ∙ ap not free
 
-    -- to a set that was reached
+    -- a step to a set that was already reached
     pub was-there : (sets : List ℕ) → is_seen sets with_c ≡ true → IsFollowed list sets set c
     was-there sets seen passing =
         subst (Contains sets) same (seen-contains sets with_c seen)
@@ -178,7 +178,7 @@ module _ (n winner budget : ℕ) (list : List Assertion) where
           let e = ap (λ s. length (members s)) (sym its-set) ∙ set-long n (c ∷ step.0) room walk.is.proper in
           omega (arith, e)
 
-      -- a set with one member more
+      -- a set with one more member
       pub one-longer : length (members with_c) ≡ length (members set) + 1
       one-longer =
           let e = ap (λ s. length (members s)) (sym step.2) ∙ set-long n step.0 room (suffix-rest n c step.0 walk.is.proper) in
@@ -187,13 +187,13 @@ module _ (n winner budget : ℕ) (list : List Assertion) where
       pub as-few : length (members with_c) ≤ n
       as-few = let l = not-longer n winner (passes list) (c ∷ step.0) walk in omega (arith, l, long)
 
-      -- to the set of all candidates
+      -- a step to the set of all candidates
       pub comes-to-all : length (members with_c) ≡ n → IsHalt n winner list HaltStands
       comes-to-all whole =
           let (order, e) = whole-walks n winner (passes list) (c ∷ step.0) walk (omega (arith, long, whole)) in
           (order, standing_by_sets n winner list ∙ e)
 
-      -- to a set of fewer
+      -- a step to a smaller set
       pub more-stands : (length (members with_c) ≡ n → ⊥) → Contains (standing n winner (passes list)) with_c
       more-stands part =
           subst (Contains (standing n winner (passes list))) its-set
@@ -209,13 +209,13 @@ module _ (n winner budget : ℕ) (list : List Assertion) where
         few = λ h. omega (arith, few, length-append sets (with_c ∷ []));
       }
 
-    -- once it is there
+    -- when it is there
     pub is-followed : (sets new : List ℕ) → Extends (sets ++ with_c ∷ []) new → IsFollowed list new set c
     is-followed sets new e passing =
         subst (Contains new) same (extends-contains (sets ++ with_c ∷ []) new with_c e (Contains-push sets with_c))
 
   -- ---- the steps of an assertion that is left out
-  -- none, for a NEB that one of the claims is too
+  -- no steps, for a NEB that is also one of the claims
   pub neb-twice : (w l : ℕ) (old new : List ℕ) → list_any (is_neb w l) list ≡ true → AreOpenedFollowed n winner (Neb w l) list old new
   neb-twice w l old new there set c start below out anew passed =
       let (b, m, e) = from_list_any (is_neb w l) list there in
@@ -228,14 +228,14 @@ module _ (n winner budget : ℕ) (list : List Assertion) where
           ap₂ (λ x y. is_anew (Neb x y) set c) (eqb-true v w q) (eqb-true k l p)
       same-anew (Nen v k rest) e = cc
 
-  -- by its loser, for another NEB
+  -- steps with its loser, for any other NEB
   pub opened-by : (w l : ℕ) (old new : List ℕ) →
       ((set : ℕ) → IsStart winner old set l → has set l ≡ false → IsFollowed list new set l) → AreOpenedFollowed n winner (Neb w l) list old new
   opened-by w l old new followed set c start below out anew =
       let same : l ≡ c = eqb-true l c (and_parts (l == c) (not (has (more set c) w)) anew).0 in
       subst (IsFollowed list new set) same (followed set (subst (IsStart winner old set) (sym same) start) (ap (has set) same ∙ out))
 
-  -- into its set, for a NEN
+  -- steps into its set, for a NEN
   pub opened-into : (w l rest : ℕ) (old new : List ℕ) → is_proper n (Nen w l rest) ≡ true →
       ((behind : ℕ) → Contains old behind → has behind w ≡ false → rest ≡ more behind w → IsFollowed list new behind w) →
       AreOpenedFollowed n winner (Nen w l rest) list old new
@@ -260,7 +260,7 @@ module _ (n winner budget : ℕ) (list : List Assertion) where
       both-in true e = refl
       both-in false e = e
 
-  -- the set without the candidate is the one behind it
+  -- the set without the candidate is the one it comes from
   pub behind-is : (set c behind without_c : ℕ) → ((d : ℕ) → has without_c d ≡ (has set d && not (d == c))) → has behind c ≡ false →
       Contains (standing n winner (passes list)) behind → set ≡ more behind c → c < n → without_c ≡ behind
   behind-is set c behind without_c are out there same below =

@@ -1,4 +1,4 @@
--- What stands with one candidate more in front.
+-- What stands with one more candidate in front.
 use Rattle.std.proofs.Common.{◌≡◌, ◌≢◌, inl, inr, ℕ, ◌<◌, ◌≤◌, Bool, true, false, List, [], ◌∷◌, length, Some, Contains, refl, sym, ap, arith, ◌∙◌}
 use Rattle.std.proofs.lemmas.Bool.{and_from}
 use Rattle.irv_base.specs.Candidates.{candidates, has, members, set_of}
@@ -20,7 +20,7 @@ use Rattle.set_walk.proofs.Orders.{alternative-suffix}
 use Rattle.set_walk.proofs.Standing.{from_standing, standing-member}
 use Rattle.trimmer.specs.Spreading.{IsStart}
 
--- a set has as many members as a suffix of it has candidates
+-- a set has as many members as a suffix of this set has candidates
 pub set-long : (n : ℕ) (t : List ℕ) → n ≤ ROOM → is_suffix n t ≡ true → length (members (set_of t)) ≡ length t
 set-long n t room proper =
     let s : Suffix n t = suffix_facts n t proper in
@@ -35,7 +35,7 @@ module _ (n winner : ℕ) (goes : ℕ → ℕ → Bool) where
   abbrev W : List ℕ → Type 0
   W t = Walks n winner goes t
 
-  -- a suffix that walks, and one candidate more
+  -- a suffix that walks, with one more candidate
   in-front : (t : List ℕ) (c : ℕ) → W t → c < n → has (set_of t) c ≡ false → goes (set_of t) c ≡ true → W (c ∷ t)
   in-front t c w below out passing = record {
     is = record {

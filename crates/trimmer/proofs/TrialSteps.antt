@@ -1,4 +1,4 @@
--- How a trial goes on from what is left of the claims behind it.
+-- How a trial follows from what is left of the later claims.
 use Rattle.std.proofs.Common.{◌≡◌, ℕ, zero, suc, ◌+◌, ◌<◌, ◌≤◌, ◌-◌, Bool, if◌then◌else◌, List, [], ◌∷◌, ◌++◌, length, get_or, take, drop, Result, Ok, Err, sym, ap, ap₂, arith, ◌∙◌}
 use Rattle.std.proofs.lemmas.List.{drop_more, take_more, take_all, drop_all, append-nil, length-take-le, take-take}
 use Rattle.assertions.specs.declared.assertion.Assertion.TheVariants.{Neb}
@@ -8,7 +8,7 @@ use Rattle.assertion_file.specs.Content.{Content}
 use Rattle.trimmer.specs.declared.fault.TrimFault.{TrimFault}
 use Rattle.trimmer.specs.Trimmed.{can_go, unless_it_goes, covered_by, tried, left_of}
 
--- some claim, to stand where a list has none
+-- some claim, for a list that has none
 abbrev pub some_claim : Claim
 some_claim = record { assertion = Neb 0 1; margin = 0 }
 
@@ -22,7 +22,7 @@ module _ (budget : Budget) (file : Content) (claims : List Claim) where
       ap (left_of budget file (take i claims)) (drop_more claims i d l)
       ∙ ap (λ earlier. tried budget file (take i claims) (get_or claims i d) (left_of budget file earlier (drop (i + 1) claims))) (sym (take_more claims i d l))
 
-  -- the trial of the claim at this place
+  -- the trial of the claim at this index
   abbrev pub trial : ℕ → List Claim → Result Bool TrimFault
   trial i left = can_go (i + 1) (covered_by budget file (take i claims ++ left))
 
@@ -36,7 +36,7 @@ module _ (budget : Budget) (file : Content) (claims : List Claim) where
       left_from i ≡ Ok (if goes then left else get_or claims i d ∷ left)
   told-next i d left goes l h e = trial-next i d left l h ∙ ap (unless_it_goes (get_or claims i d) left) (sym e)
 
-  -- a fault of a trial is that of all
+  -- a fault of one trial is a fault of the whole
   fault-stays : (i : ℕ) (d : Claim) (fault : TrimFault) → i ≤ length claims → left_from i ≡ Err fault → left_of budget file [] claims ≡ Err fault
   fault-stays zero d fault le h = h
   fault-stays (suc i) d fault le h =
@@ -56,7 +56,7 @@ module _ (budget : Budget) (file : Content) (claims : List Claim) where
   pub start-all : (n : ℕ) → length claims ≡ n → take n claims ++ [] ≡ claims
   start-all n e = append-nil (take n claims) ∙ take_all n claims (omega arith)
 
--- the claims before the last of so many
+-- the claims before the last one of this many
 pub take-before : (claims : List Claim) (i : ℕ) (untried : List Claim) → i < length claims → untried ≡ take (i + 1) claims →
     take (length untried - 1) untried ≡ take i claims
 take-before claims i untried below same =

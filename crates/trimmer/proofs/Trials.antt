@@ -1,4 +1,4 @@
--- What a scan of the alternative winners says of the others.
+-- What a scan of the alternative winners says about the others.
 use Rattle.std.proofs.Common.{◌≡◌, ◌≢◌, ◌⊎◌, inl, inr, ℕ, zero, suc, ◌+◌, ◌<◌, ◌≤◌, Bool, true, false, not, ◌&&◌, ◌==◌, List, [], ◌∷◌, length, nat_lt, get_or, replicate, Option, Some, None, option_map, Result, Ok, Err, refl, sym, ap, ap₂, arith, ne_eqb, ◌∙◌}
 use Rattle.std.proofs.lemmas.Bool.{cases_eq, cases_lt, not_from_false}
 use Rattle.budget.specs.declared.budget.Budget.TheVariants.{Nodes}
@@ -29,7 +29,7 @@ module _ (nodes n winner : ℕ) (list : List Assertion) (some : 0 < n) where
   abbrev pub Ends : ℕ → Type 0
   Ends c = (k : ℕ) × (walked n nodes (stands list) 0 (all_ending n (c ∷ [])) ≡ Ok k)
 
-  -- ---- where the list covers
+  -- ---- if the list covers
   scan-ends : (cs : List ℕ) → scan n nodes (stands list) cs ≡ Ok None → (c : ℕ) → Member c cs → Ends c
   scan-ends [] h c m = absurd (member_nil m)
   scan-ends (d ∷ cs) h c m = go (walked n nodes (stands list) 0 (all_ending n (d ∷ []))) refl h (member_cases m) (scan-ends cs) where
@@ -83,7 +83,7 @@ module _ (nodes n winner : ℕ) (list : List Assertion) (some : 0 < n) where
       sym (scan-start n nodes kept winner some) ∙ passes last (omega arith) h ∙ scan-stops n nodes kept winner last (Found order) below ne (sym w) in
       sym (some-stands order (walk.first_over n winner nodes (kept_count n kept (first_kept n winner kept))) (first_kept n winner kept) (sym all))
 
--- ---- counts that are known without a walk, or by one of all
+-- ---- counts that are known without a walk, or from one walk of everything
 
 pub filled-le : (x c : ℕ) → get_or (replicate ROOM x) c 0 ≤ x
 filled-le x c = elim (cases_lt c ROOM) [
@@ -104,7 +104,7 @@ and-all true = refl
 and-all false = refl
 
 module _ (nodes n winner : ℕ) (list : List Assertion) (claim : Option Assertion) (none : claim ≡ None) (room : n ≤ ROOM) where
-  -- from nothing on, what is looked at without a claim is what stands
+  -- from nothing on, what is examined without a claim is what stands
   none-left : (c : ℕ) → c < n → (start : List ℕ) → start ≡ replicate ROOM 0 →
       walked n nodes (stands list) 0 (all_ending n (c ∷ [])) ≡ walked n nodes (opens list claim) (get_or start c 0) (all_ending n (c ∷ []))
   none-left c below start from =
@@ -115,7 +115,7 @@ module _ (nodes n winner : ℕ) (list : List Assertion) (claim : Option Assertio
   pub all-counts : (more : List ℕ) → Scanned nodes n winner list claim (replicate ROOM 0) (ScanCovered more) → AreCounts nodes n winner list more
   all-counts more scanned c below ne = none-left c below (replicate ROOM 0) refl ∙ scanned.0 c below ne
 
-  -- where the list covers, no walk stops before its end
+  -- if the list covers, no walk stops before its end
   module _ (some : 0 < n) (h : covered_is n winner list (Nodes nodes) ≡ Ok Covered) where
     never-stops : (last : ℕ) (stop : Stop) → last < n → last ≢ winner →
         walked n nodes (opens list claim) (get_or (replicate ROOM 0) last 0) (all_ending n (last ∷ [])) ≡ Err stop → ⊥
@@ -130,7 +130,7 @@ module _ (nodes n winner : ℕ) (list : List Assertion) (claim : Option Assertio
     pub never-unclear : Scanned nodes n winner list claim (replicate ROOM 0) ScanUnclear → ⊥
     never-unclear (last, below, ne, before, e) = never-stops last Spent below ne e
 
--- ---- from the counts of a list to those without one of its claims
+-- ---- from the counts of a list to the counts without one of its claims
 module _ (nodes n winner : ℕ) (list others : List Assertion) (claim : Assertion) (some : 0 < n)
     (parted : (s : List ℕ) → stands list s ≡ (stands others s && not (refutes claim s)))
     (counts : List ℕ) (were : AreCounts nodes n winner list counts) (within : AreWithin nodes counts) where

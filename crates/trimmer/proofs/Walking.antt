@@ -39,7 +39,7 @@ module _ (n nodes : ℕ) (others : List Assertion) (claim : Option Assertion) (c
   abbrev test : List ℕ → Bool
   test = opens others claim
 
-  -- the others refute all that ends in the suffix
+  -- the others refute everything that ends in the suffix
   pub walked-refuted : is_suffix n t ≡ true → stands others t ≡ false → Ok count ≡ told (walked n nodes test count (all_ending n t))
   walked-refuted h f = sym (ap told (walked_none n nodes test count (all_ending n t) (others-none n others claim t h f)))
 

@@ -1,4 +1,4 @@
--- How many suffixes count, where claims cover, and what a scan of the alternative winners says of them.
+-- The number of suffixes that count if claims cover, and what a scan of the alternative winners says about them.
 use Rattle.std.specs.Prelude.{◌≡◌, ◌≢◌, ◌<◌, ◌≤◌, ℕ, List, [], ◌∷◌, map, slice_index, Option, Ok, Err}
 use Rattle.budget.specs.declared.budget.Budget.{Budget}
 use Rattle.budget.specs.declared.budget.Budget.TheVariants.{Nodes, Sets}
@@ -16,7 +16,7 @@ use Rattle.trimmer.specs.declared.known.Known.TheVariants.{Suffixes as KnownSuff
 use Rattle.trimmer.specs.declared.scan.Scan.{Scan}
 use Rattle.trimmer.specs.declared.scan.Scan.TheVariants.{Covered, Stands, Unclear}
 
--- for each alternative winner a walk comes to its end, and counts this many suffixes
+-- for each alternative winner, a walk comes to its end and counts this number of suffixes
 abbrev pub AreCounts : ℕ → ℕ → ℕ → List Assertion → List ℕ → Type 0
 AreCounts nodes n winner list counts =
     (c : ℕ) → c < n → c ≢ winner →
@@ -26,7 +26,7 @@ abbrev pub AreWithin : ℕ → List ℕ → Type 0
 AreWithin nodes counts = (c : ℕ) → slice_index counts c ≤ nodes
 
 module _ (nodes n winner : ℕ) (others : List Assertion) (claim : Option Assertion) (counts : List ℕ) where
-  -- what opens below a candidate is walked on from its count
+  -- the walk through what opens below a candidate continues from its count
   abbrev pub Goes : ℕ → ℕ → Type 0
   Goes c count =
       walked n nodes (opens others claim) (slice_index counts c) (all_ending n (c ∷ [])) ≡ Ok count

@@ -1,4 +1,4 @@
--- The worked examples of a file with a plan, and of one without an order.
+-- Worked examples of a file with a plan, and of one without an order.
 use Rattle.std.specs.Prelude.{ℕ, List, [], ◌∷◌, Option, Some, None}
 use Rattle.assertions.specs.declared.assertion.Assertion.TheVariants.{Neb}
 use Rattle.assertion_file.specs.Content.{Content}
@@ -11,7 +11,7 @@ planning draws =
       plan = Some (record { cards = 12; gamma = 100; limit = 50000; draws = draws });
     }
 
--- two claims of two candidates that say the same, one of which has another margin, without an order
+-- two claims of two candidates that say the same, one with a different margin, in a file without an order
 abbrev pub twice : ℕ → Content
 twice margin =
     record files.two_candidates {

@@ -1,4 +1,4 @@
--- What opens once a claim is removed.
+-- What opens when a claim is removed.
 use Rattle.std.specs.Prelude.{ℕ, ◌+◌, nat_lt, if◌then◌else◌, Bool, true, false, not, ◌&&◌, ◌||◌, List, Option, Some, None, Result, Ok, Err}
 use Rattle.std.specs.List.{list_any}
 use Rattle.irv_base.specs.Candidates.{has, members}
@@ -11,12 +11,12 @@ use Rattle.cover_checker.specs.Covers.{stands}
 use Rattle.trimmer.specs.declared.opened.Stop.{Stop}
 use Rattle.trimmer.specs.declared.opened.Stop.TheVariants.{Found, Spent}
 
--- the claim refutes the suffix; where there is no claim, every suffix is looked at
+-- the claim refutes the suffix; if there is no claim, every suffix is examined
 abbrev pub is_open : Option Assertion → List ℕ → Bool
 is_open None suffix = true
 is_open (Some claim) suffix = refutes claim suffix
 
--- no other refutes the suffix, and the claim does
+-- no other claim refutes the suffix, and the claim does
 abbrev pub opens : List Assertion → Option Assertion → List ℕ → Bool
 opens others claim suffix = stands others suffix && is_open claim suffix
 
@@ -31,7 +31,7 @@ told (Ok count) = Ok count
 told (Err (WalkFound order)) = Err Found
 told (Err WalkSpent) = Err Spent
 
--- one suffix more, if it is open
+-- the count with one more suffix, if the suffix is open
 abbrev pub counted : Bool → ℕ → ℕ → Result ℕ Stop
 counted true count nodes = if nat_lt count nodes then Ok (count + 1) else Err Spent
 counted false count nodes = Ok count

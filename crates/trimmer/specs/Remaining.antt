@@ -1,9 +1,9 @@
--- The claims that are left while they are tried, from the last to the first.
+-- The claims that are left while they are tried from last to first.
 use Rattle.std.specs.Prelude.{List, ◌++◌, map}
 use Rattle.assertions.specs.declared.assertion.Assertion.{Assertion}
 use Rattle.assertions.specs.declared.assertion.Claim.{Claim}
 
--- those that aren't tried yet, and those that stay of the ones after them
+-- the claims that haven't been tried, and those after them that stay
 pub record Left : Type 0 where
   pub untried : List Claim
   pub kept : List Claim

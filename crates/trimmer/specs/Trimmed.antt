@@ -1,4 +1,4 @@
--- What is left of an assertion file once each claim that can go is dropped, from the last to the first.
+-- What is left of an assertion file after each claim that can be removed is dropped, from last to first.
 use Rattle.std.specs.Prelude.{ℕ, ◌+◌, Bool, true, false, if◌then◌else◌, List, [], ◌∷◌, ◌++◌, length, map, Option, Some, None, option_map, Result, Ok, Err}
 use Rattle.budget.specs.declared.budget.Budget.{Budget}
 use Rattle.irv_base.specs.Tabulation.{least}
@@ -12,7 +12,7 @@ use Rattle.cover_checker.specs.declared.cover.CoverFault.TheVariants.{Spent as C
 use Rattle.trimmer.specs.declared.fault.TrimFault.{TrimFault}
 use Rattle.trimmer.specs.declared.fault.TrimFault.TheVariants.{Spent, SpentSets, Memory}
 
--- whether the claim of this number can go, by a trial without it: it can where the others cover, and can't where an order stands
+-- whether the claim with this number can be removed, by a trial without it: it can if the others cover, and can't if an order stands
 abbrev pub can_go : ℕ → Result Verdict CoverFault → Result Bool TrimFault
 can_go number (Ok Covered) = Ok true
 can_go number (Ok (Stands order)) = Ok false
@@ -36,7 +36,7 @@ abbrev pub margin_with : Option (List ℕ) → ℕ → List Claim → ℕ
 margin_with None margin claims = least (map (λ claim. claim.margin) claims)
 margin_with (Some order) margin claims = margin
 
--- a file without an order has the smallest margin of the claims that are left; by an order the margin can't be larger, and stays
+-- a file without an order has the smallest margin of the claims that are left; with an order, the margin can't be larger and stays the same
 abbrev pub margin_left : Content → List Claim → ℕ
 margin_left file claims = margin_with file.order file.margin claims
 
@@ -46,12 +46,12 @@ with_claims file plan (Ok claims) =
 with_claims file plan (Err fault) = Err fault
 
 module _ (budget : Budget) (file : Content) where
-  -- whether these claims refute every order that elects another candidate than the file's winner
+  -- whether these claims refute every order that elects a candidate other than the file's winner
   abbrev pub covered_by : List Claim → Result Verdict CoverFault
   covered_by claims =
       covered_is (candidate_count file) file.winner (map (λ claim. claim.assertion) claims) budget
 
-  -- whether a claim can go, where the earlier ones are all there, and this is left of the later ones; it is numbered from 1
+  -- whether a claim can be removed, if all earlier claims are there and this is left of the later ones; the claim is numbered from 1
   abbrev pub trial : List Claim → Result (List Claim) TrimFault → Result Bool TrimFault
   trial earlier (Err fault) = Err fault
   trial earlier (Ok later) = can_go (length earlier + 1) (covered_by (earlier ++ later))
@@ -61,13 +61,13 @@ module _ (budget : Budget) (file : Content) where
   tried earlier claim (Err fault) = Err fault
   tried earlier claim (Ok later) = unless_it_goes claim later (trial earlier (Ok later))
 
-  -- what is left of the later claims: each is tried after all that come later
+  -- what is left of the later claims; each is tried after all that come later
   abbrev pub left_of : List Claim → List Claim → Result (List Claim) TrimFault
   left_of earlier [] = Ok []
   left_of earlier (claim ∷ later) =
       tried earlier claim (left_of (earlier ++ claim ∷ []) later)
 
-  -- what is left of their draws: those of the claims that are left
+  -- what is left of their draws, which are those of the claims that are left
   abbrev pub draws_left : List Claim → List Claim → List (Option ℕ) → List (Option ℕ)
   draws_left earlier [] draws = []
   draws_left earlier (claim ∷ later) [] = []

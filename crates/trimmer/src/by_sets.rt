@@ -16,7 +16,7 @@ use cover_checker::{CoverFault, Reached, SetWalk, Verdict, reach};
 use irv_base::{Memory, ROOM};
 use std::alloc::Global;
 
-// Why the trial of the claim with this number isn't decided, if this fault keeps a check of the others from an answer.
+// Why the trial of the claim with this number isn't decided, if this fault keeps a check of the other claims from an answer.
 fn fault_of(number: u64, fault: CoverFault) -> TrimFault
     ensures { Err result ≡ can_go number (Err fault) }
 {
@@ -33,8 +33,8 @@ fn fault_of(number: u64, fault: CoverFault) -> TrimFault
     }
 }
 
-// Whether the budget has as many sets as may count in a contest of `n` candidates: all but the empty set, the winner alone, and all
-// candidates.
+// Whether the budget has as many sets as can count in a contest of `n` candidates. These are all sets except the empty set, the set of
+// only the winner, and the set of all candidates.
 fn has_all_sets(n: u32, budget: u32) -> bool
     requires { n ≤ ROOM }
     ensures { result ≡ nat_le (2 ^ n) (budget + 3) }
@@ -42,7 +42,7 @@ fn has_all_sets(n: u32, budget: u32) -> bool
     1u64 << n <= u64::from(budget) + 3
 }
 
-// Whether the claim can go, by a walk from the start. If it can, the sets become those that the walk reached.
+// Whether the claim can be removed, by a walk from the start. If it can, the sets become those that the walk reached.
 fn can_go_anew(
     alloc: Global,
     f: &AssertionFile,
@@ -73,8 +73,8 @@ fn can_go_anew(
     }
 }
 
-/// Whether the claim at this place can go, by what more is reached without it: these are the others. The sets are those that are
-/// reached with the claim. If it can go, they become those that are reached without it.
+/// Returns whether the claim at this index can be removed, by what else is reached without it. The other claims are given. The sets are
+/// those that are reached with the claim. If it can be removed, they become those that are reached without it.
 pub fn can_go_by_sets(
     alloc: Global,
     f: &AssertionFile,
@@ -119,7 +119,7 @@ pub fn can_go_by_sets(
     }
 }
 
-/// The sets that are reached with all claims of the file.
+/// Returns the sets that are reached with all claims of the file.
 pub fn first_reached(
     alloc: Global,
     f: &AssertionFile,

@@ -1,4 +1,4 @@
-// How often a list of assertions says what: an index that forgets.
+// The number of times that a list of assertions says each thing: an index that can forget assertions.
 ghost use Rattle.std.specs.Prelude.{◌≡◌, ◌<◌, ◌-◌, ◌^◌, List, [], ◌∷◌, ◌++◌, nat_lt, length, IfOk, OnOk};
 ghost use Rattle.std.specs.List.{list_any};
 ghost use Rattle.assertions.specs.declared.assertion.Assertion.{Assertion as Said};
@@ -11,16 +11,17 @@ use irv_base::{Candidate, Memory};
 use std::alloc::Global;
 use std::collections::BTreeMap;
 
-/// What the assertions of a list refute, and how many refute the same.
+/// What the assertions of a list refute, and the number of assertions that refute the same thing.
 #[derive(Drop)]
 pub struct Counted {
-    /// What they refute.
+    /// What the assertions refute.
     pub refuting: Refuting,
-    /// How many refute the same as each: none where there is no entry. They are in order, so that none is slow to find.
+    /// The number of assertions that refute the same as each one. An assertion without an entry has none. The map is sorted, so no entry is
+    /// slow to find.
     pub times: BTreeMap<Assertion, u64>,
 }
 
-// The one for all that refute the same.
+// The assertion that represents all that refute the same.
 fn alike(a: &Assertion) -> Assertion
     ensures { result ≡ alike a.now }
 {
@@ -31,7 +32,7 @@ fn alike(a: &Assertion) -> Assertion
 }
 
 impl Counted {
-    /// The counts of a list without assertions, in a contest of `n` candidates.
+    /// Makes the counts of a list without assertions, in a contest of `n` candidates.
     pub fn none(alloc: Global, n: u32) -> Result<Counted, Memory>
         ensures { IfOk result (IsCountOf []) }
     {
@@ -41,7 +42,7 @@ impl Counted {
         })
     }
 
-    // How many assertions refute the same as this one.
+    // The number of assertions that refute the same as this one.
     fn times(&self, a: &Assertion) -> u64
         ensures { result ≡ count_in self.now a.now }
     {
@@ -51,7 +52,7 @@ impl Counted {
         }
     }
 
-    /// One assertion more.
+    /// Adds an assertion.
     pub fn add(&mut self, a: &Assertion) -> Result<(), Memory>
         ensures { (before after : List Said) → length (before ++ after) < 2 ^ 64 - 1
             → IsCountOf (before ++ after) self.old
@@ -62,7 +63,7 @@ impl Counted {
         self.refuting.add(a)
     }
 
-    /// One assertion less.
+    /// Removes an assertion.
     pub fn forget(&mut self, a: &Assertion) -> Result<(), Memory>
         ensures { (before after : List Said) → IsCountOf (before ++ a.now ∷ after) self.old
             → OnOk result (IsCountOf (before ++ after) self.new) }
@@ -72,7 +73,7 @@ impl Counted {
         self.refuting.put(a, times > 0)
     }
 
-    /// Whether one of the assertions is the NEB of this winner over this loser.
+    /// Returns whether one of the assertions is the NEB of this winner over this loser.
     pub fn has_neb(&self, w: Candidate, l: Candidate) -> bool
         ensures { (list : List Said) → IsCountOf list self.now → result ≡ list_any (is_neb w l) list }
     {

@@ -1,4 +1,4 @@
-// How many suffixes count, where the claims cover.
+// The number of suffixes that count if the claims cover.
 ghost use Rattle.std.specs.Prelude.{◌≡◌, ◌≤◌, None, Ok};
 ghost use Rattle.irv_base.specs.declared.limits.TheConstants.{ROOM};
 ghost use Rattle.cover_checker.specs.Covers.{covered_is};
@@ -11,7 +11,8 @@ use crate::scan::{Scan, scanned};
 use budget::Budget;
 use irv_base::{Candidate, ROOM};
 
-/// How many suffixes count for each alternative winner, if the claims cover; they are the others, with none removed.
+/// Returns the number of suffixes that count for each alternative winner, if the claims cover. The claims are the others, with no claim
+/// removed.
 pub fn counts_of(claims: &Without<'_>, winner: Candidate, nodes: u32) -> [u32; ROOM as usize]
     requires number { 1 ≤ claims.now.n }
     requires room { claims.now.n ≤ ROOM }

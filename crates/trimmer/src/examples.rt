@@ -7,8 +7,8 @@ ghost use Rattle.trimmer.specs.Trimmed.{trimmed};
 use crate::TrimFault;
 use budget::Budget;
 
-/// NEN(2,0,{0,2}) can go, since NEB(1,2) refutes all that it does. The other two are needed: with the NEB alone 2,1,0 stands,
-/// and with the NEN alone 1,0,2. To see that, two suffixes count for a candidate, and two sets in all.
+/// NEN(2,0,{0,2}) can be removed, since NEB(1,2) refutes everything that it refutes. The other two are needed: 2,1,0 stands with only the
+/// NEB, and 1,0,2 stands with only the NEN. To see that, two suffixes count for a candidate, and two sets count in total.
 pub fn three_candidates()
     ensures trimmed { trimmed (Budget.Nodes 2) files.three_candidates
         ≡ Ok (record files.three_candidates { claims = take 2 files.three_candidates.claims }) }
@@ -18,7 +18,7 @@ pub fn three_candidates()
     ensures short { trimmed (Budget.Sets 1) files.three_candidates ≡ Err (TrimFault.SpentSets 2 1) }
 {}
 
-/// One claim of two candidates is needed.
+/// The one claim of two candidates is needed.
 pub fn two_candidates()
     ensures { trimmed (Budget.Nodes 1) files.two_candidates ≡ Ok files.two_candidates }
 {}

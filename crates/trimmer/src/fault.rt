@@ -10,12 +10,13 @@ use std::fmt;
 /// Why an assertion file isn't trimmed.
 #[derive(Clone, Copy, Debug, PartialEq, Eq)]
 pub enum TrimFault {
-    /// Whether the others cover without the claim with this number, from 1, isn't known: `last` is the least alternative winner
-    /// for whom more suffixes count than the budget has. Of the claims for which that is so, it is the first that is tried.
+    /// It isn't known whether the other claims cover without the claim with this number, counted from 1. `last` is the lowest-numbered
+    /// alternative winner for whom more suffixes count than the budget has. The claim is the first for which this happens, in the order of the
+    /// trials.
     Spent { claim: u64, last: Candidate },
-    /// The same by sets: without the claim with this number more sets of candidates count than the budget has, which is this many.
+    /// The same by sets: without the claim with this number, more sets of candidates count than the budget has, which is this number.
     SpentSets { claim: u64, sets: u32 },
-    /// Memory could not be had.
+    /// Memory could not be allocated.
     Memory,
 }
 

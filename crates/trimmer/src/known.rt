@@ -1,27 +1,27 @@
-// What is known of the claims that are left, from one trial to the next.
+// What each trial passes on to the next about the claims that are left.
 
 use cover_checker::Reached;
 use irv_base::ROOM;
 
-/// How many suffixes count for each alternative winner, and how many may.
+/// The number of suffixes that count for each alternative winner, and the number that may count.
 #[derive(Drop)]
 pub struct KnownSuffixes {
-    /// How many may count for each.
+    /// The number of suffixes that may count for each alternative winner.
     pub nodes: u32,
-    /// How many do.
+    /// The number of suffixes that do count.
     pub counts: [u32; ROOM as usize],
 }
 
-/// The sets that are reached, and how many may be.
+/// The sets that are reached, and the number that may be reached.
 #[derive(Drop)]
 pub struct KnownSets {
-    /// How many may be reached.
+    /// The number of sets that may be reached.
     pub budget: u32,
-    /// Those that are.
+    /// The sets that are reached.
     pub reached: Reached,
 }
 
-/// What is known of the claims that are left, by the budget of each trial.
+/// What is known about the claims that are left, by the budget of each trial.
 #[derive(Drop)]
 pub enum Known {
     /// The budget is of nodes.

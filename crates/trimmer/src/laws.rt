@@ -1,18 +1,18 @@
 //! What a trimmed file says. Each law holds of every value that it names, and has no code.
 ghost use Rattle.trimmer.specs.Laws.{TrimmedIsAccepted, TrimmedIsPart, TrimmedIsIrredundant, NoPartCovers, TrimmedStays, TrimIsNeverSpent, TrimBySetsIsNeverSpent};
 
-/// If a check accepts the file that was read, it accepts the trimmed one, on the same ballots and at the same budget.
+/// If a check accepts the file that was read, it also accepts the trimmed file, on the same ballots and with the same budget.
 pub fn trimmed_is_accepted()
     ensures { TrimmedIsAccepted }
 {}
 
-/// The claims of a trimmed file are among those that were read, in their order and with their draws, and all else of it is the
-/// same, but for the margin of a file without an order: it's the smallest of those that are left.
+/// The claims of a trimmed file are among those that were read, in the same order and with their draws. Everything else in the file is the
+/// same, except the margin of a file without an order, which is the smallest margin of the claims that are left.
 pub fn trimmed_is_part()
     ensures { TrimmedIsPart }
 {}
 
-/// For each claim of a trimmed file an order stands, which elects another candidate, that no other of its claims refutes.
+/// For each claim of a trimmed file, there is an order that elects another candidate and that no other claim of the file refutes.
 pub fn trimmed_is_irredundant()
     ensures { TrimmedIsIrredundant }
 {}
@@ -22,17 +22,17 @@ pub fn no_part_covers()
     ensures { NoPartCovers }
 {}
 
-/// Trimmed again, a trimmed file stays as it is, where no budget is spent.
+/// Trimming a trimmed file again doesn't change it, if the budget doesn't run out.
 pub fn trimmed_stays()
     ensures { TrimmedStays }
 {}
 
-/// With `2 * (n - 1)!` nodes no trial of a file of n candidates is spent.
+/// With `2 * (n - 1)!` nodes, no trial of a file of n candidates runs out.
 pub fn trim_is_never_spent()
     ensures { TrimIsNeverSpent }
 {}
 
-/// Nor is one with `2^n - 3` sets.
+/// With `2^n - 3` sets, no trial runs out either.
 pub fn trim_by_sets_is_never_spent()
     ensures { TrimBySetsIsNeverSpent }
 {}

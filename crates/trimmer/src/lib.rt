@@ -1,7 +1,7 @@
-//! The trimmer: an assertion file without the claims that can go, so that each that is left is needed.
+//! The trimmer drops the claims of an assertion file that can be removed, so that each claim that is left is needed.
 //!
-//! Fewer assertions mean less to explain, and never more to draw: the smallest margin stays, or grows in a file without an order.
-//! It stands on the checker, and on no search.
+//! Fewer assertions mean less to explain, and never more to draw: the smallest margin stays the same, or grows in a file without an order.
+//! The trimmer uses the checker, and no search.
 #![tactic(auto)]
 
 mod by_sets;

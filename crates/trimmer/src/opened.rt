@@ -1,4 +1,4 @@
-// The walk through what opens once a claim is removed.
+// A walk through what opens when a claim is removed.
 ghost use Rattle.std.specs.Prelude.{◌≡◌, ◌<◌, ◌≤◌, false, length, drop, MatchOption, IsTrue};
 ghost use Rattle.irv_base.specs.Suffixes.{is_suffix};
 ghost use Rattle.irv_base.specs.declared.limits.TheConstants.{ROOM};
@@ -24,7 +24,7 @@ pub enum Stop {
     Spent,
 }
 
-// One suffix more, if it is open.
+// The count with one more suffix, if the suffix is open.
 fn counted(is_open: bool, count: u32, nodes: u32) -> Result<u32, Stop>
     ensures { result ≡ counted is_open count nodes }
 {
@@ -38,14 +38,14 @@ fn counted(is_open: bool, count: u32, nodes: u32) -> Result<u32, Stop>
     }
 }
 
-/// A claim that is removed, and the others. Without a claim, the others alone.
+/// A claim that is removed, and the other claims. If there is no claim, only the others.
 #[derive(Drop)]
 pub struct Without<'a> {
-    /// How many candidates the contest has.
+    /// The number of candidates in the contest.
     pub n: u32,
-    /// The others.
+    /// The other claims.
     pub others: &'a Remaining<'a>,
-    /// The claim.
+    /// The claim that is removed.
     pub claim: Option<Assertion>,
 }
 
@@ -59,7 +59,7 @@ fn is_new(a: &Assertion, first: Candidate, set: CandSet) -> bool
     }
 }
 
-// Whether the assertion refutes nothing that ends in a suffix of this set, if it doesn't refute the suffix.
+// Whether the assertion refutes nothing that ends in a suffix of this set, if it doesn't refute the suffix itself.
 fn is_past(a: &Assertion, set: CandSet) -> bool
     ensures { result ≡ is_past a.now set }
 {
@@ -71,7 +71,7 @@ fn is_past(a: &Assertion, set: CandSet) -> bool
     }
 }
 
-/// The test that keeps what none of the others refutes.
+/// A test that keeps the suffixes that no other claim refutes.
 impl Keeps for Without<'_> {
     ghost size = { λ w. w.n };
 
@@ -86,7 +86,7 @@ impl Keeps for Without<'_> {
 }
 
 impl Without<'_> {
-    // Whether the claim refutes the suffix, where it is known of its parent.
+    // Whether the claim refutes the suffix, given whether it refutes its parent.
     fn is_open(&self, is_parent_open: bool, suffix: &Suffix) -> bool
         requires proper { IsTrue (is_suffix self.now.n suffix.now) }
         requires some { 0 < length suffix.now }
@@ -99,7 +99,7 @@ impl Without<'_> {
         }
     }
 
-    // Whether the claim refutes nothing that ends in a suffix of this set, if it doesn't refute the suffix.
+    // Whether the claim refutes nothing that ends in a suffix of this set, if it doesn't refute the suffix itself.
     fn is_past(&self, set: CandSet) -> bool
         ensures { MatchOption self.now.claim (result ≡ false) (λ claim. result ≡ is_past claim set) }
     {
@@ -109,9 +109,9 @@ impl Without<'_> {
         }
     }
 
-    /// Walks the suffixes that end in this one, and adds those that open, and aren't whole orders, to the count.
+    /// Walks the suffixes that end in this one. Each that opens and isn't a whole order is added to the count.
     ///
-    /// It goes nowhere where the others refute all, or the claim nothing.
+    /// The walk skips parts in which the others refute everything or the claim refutes nothing.
     pub fn walk(
         &self,
         nodes: u32,

@@ -1,4 +1,4 @@
-// The claims that are left while they are tried, from the last to the first.
+// The claims that are left while they are tried from last to first.
 ghost use Rattle.std.specs.Prelude.{◌≡◌, ◌<◌, ◌+◌, ◌-◌, ◌^◌, [], ◌∷◌, length, take, IfOk};
 ghost use Rattle.std.specs.List.{list_any};
 ghost use Rattle.cover_checker.specs.Indexed.{IsIndexOf, is_neb, is_new};
@@ -11,14 +11,14 @@ use irv_base::{CandSet, Candidate, Memory};
 use std::alloc::Global;
 use std::marker::Model;
 
-/// The claims that are left: those that aren't tried yet, and those that stay of the later ones. It tells at once
-/// whether one of them refutes a suffix anew, and one is left out or kept in a few steps.
+/// The claims that are left: those that haven't been tried, and the later ones that stay. It finds in constant time whether one of them
+/// refutes a suffix anew, and leaves out or keeps a claim in a few steps.
 ///
-/// To a contract it is the two lists.
+/// In a contract, it is the two lists.
 #[derive(Drop)]
 pub struct Remaining<'a> {
     untried: &'a [Claim],
-    // Last first.
+    // In order from last to first.
     kept: Vec<Claim>,
     counted: Counted,
 }
@@ -38,7 +38,7 @@ impl<'a> Model for Remaining<'a> {
 }
 
 impl<'a> Remaining<'a> {
-    /// All of the claims of a contest of `n` candidates, none of them tried.
+    /// Takes all claims of a contest of `n` candidates, with none of them tried.
     pub fn all(alloc: Global, n: u32, claims: &'a [Claim]) -> Result<Remaining<'a>, Memory>
         ensures { IfOk result (λ r. r ≡ record { untried = claims.now; kept = [] }) }
     {
@@ -53,7 +53,7 @@ impl<'a> Remaining<'a> {
         })
     }
 
-    /// The others of the last that isn't tried yet.
+    /// Removes the last claim that hasn't been tried.
     pub fn without_last(self) -> Result<Remaining<'a>, Memory>
         requires { 0 < length self.untried }
         ensures others { IfOk result (λ r. r ≡ record {
@@ -76,7 +76,7 @@ impl<'a> Remaining<'a> {
         })
     }
 
-    /// These, and one that stays before those that stayed.
+    /// Adds a claim that stays, before the others that stayed.
     pub fn with(self, claim: Claim) -> Result<Remaining<'a>, Memory>
         requires few { length self.untried + length self.kept < 2 ^ 64 - 1 }
         ensures { IfOk result (λ r. r ≡ record {
@@ -98,7 +98,7 @@ impl<'a> Remaining<'a> {
         })
     }
 
-    /// Those that stayed.
+    /// Returns the claims that stayed.
     pub fn into_kept(self) -> Vec<Claim>
         ensures { result.items ≡ self.entry.kept }
     {
@@ -107,21 +107,21 @@ impl<'a> Remaining<'a> {
         kept
     }
 
-    /// What they refute.
+    /// Returns what the claims refute.
     pub fn refuting(&self) -> &Refuting
         ensures { IsIndexOf (assertions_in self.now) result.now }
     {
         &self.counted.refuting
     }
 
-    /// Whether one of the claims is the NEB of this winner over this loser.
+    /// Returns whether one of the claims is the NEB of this winner over this loser.
     pub fn has_neb(&self, w: Candidate, l: Candidate) -> bool
         ensures { result ≡ list_any (is_neb w l) (assertions_in self.now) }
     {
         self.counted.has_neb(w, l)
     }
 
-    /// Whether one of the claims refutes a suffix with this first candidate and this set, if none refutes its parent.
+    /// Returns whether one of the claims refutes a suffix with this first candidate and this set, if none refutes its parent.
     pub fn is_any_new(&self, first: Candidate, set: CandSet) -> bool
         ensures { result ≡ list_any (λ a. is_new a first set) (assertions_in self.now) }
     {

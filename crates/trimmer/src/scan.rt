@@ -1,4 +1,4 @@
-// The scan of the alternative winners, from the counts of a trial to those of the next.
+// A scan of the alternative winners, which turns the counts of one trial into those of the next.
 ghost use Rattle.std.specs.Prelude.{◌≡◌, ◌≤◌, Ok, length};
 ghost use Rattle.irv_base.specs.declared.limits.TheConstants.{ROOM};
 ghost use Rattle.cover_checker.specs.Covers.{covered_is};
@@ -12,16 +12,17 @@ use irv_base::{Candidate, ROOM, Suffix};
 /// What a scan finds.
 #[derive(Clone, Copy)]
 pub enum Scan {
-    /// The others cover, and this many suffixes count for each alternative winner.
+    /// The other claims cover, and this number of suffixes counts for each alternative winner.
     Covered([u32; ROOM as usize]),
     /// An order stands.
     Stands,
-    /// More suffixes open for an alternative winner than the budget has left, before an order that stands: which of the two a trial
-    /// comes to isn't known without one.
+    /// For an alternative winner, more suffixes open than the budget has left before an order that stands is found. Only a trial can find
+    /// which of the two comes first.
     Unclear,
 }
 
-/// Walks what opens without the claim, for each alternative winner, on from as many suffixes as count for it with the claim.
+/// Walks what opens without the claim, for each alternative winner, and continues from the number of suffixes that count for it with the
+/// claim.
 pub fn scanned(
     without: &Without<'_>,
     winner: Candidate,

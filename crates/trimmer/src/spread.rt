@@ -1,4 +1,4 @@
-// The sets that are reached once a claim is removed.
+// The sets that are reached when a claim is removed.
 ghost use Rattle.std.specs.Prelude.{◌≡◌, ◌<◌, ◌≤◌, ℕ, false, Contains, IsTrue, OnOk, IfErr};
 ghost use Rattle.irv_base.specs.Candidates.{has};
 ghost use Rattle.irv_base.specs.declared.limits.TheConstants.{ROOM};
@@ -15,14 +15,14 @@ use assertions::{Assertion, Claim};
 use cover_checker::Reached;
 use irv_base::{CandSet, Candidate, Memory};
 
-/// Why a spread doesn't come to its end.
+/// Why a spread stops before its end.
 #[derive(Clone, Copy)]
 pub enum Halt {
     /// An order stands.
     Stands,
     /// More sets are reached than the budget has.
     Spent,
-    /// Memory could not be had.
+    /// Memory could not be allocated.
     Memory,
 }
 
@@ -34,23 +34,23 @@ impl From<Memory> for Halt {
     }
 }
 
-/// The steps that claims let pass: from the set of a suffix that stands to the set with one more candidate in front.
+/// The steps that claims allow. Each goes from the set of a suffix that stands to the set with one more candidate in front.
 #[derive(Drop)]
 pub struct Steps<'a> {
-    /// How many candidates the contest has.
+    /// The number of candidates in the contest.
     pub n: u32,
     /// The winner.
     pub winner: Candidate,
-    /// How many sets may be reached.
+    /// The number of sets that may be reached.
     pub budget: u32,
     /// The claims.
     pub claims: &'a Remaining<'a>,
 }
 
 impl Steps<'_> {
-    // Reaches the set with the candidate in front, and all that is reached from there, unless a claim keeps it out.
+    // Reaches the set with the candidate in front, and all sets that are reached from there, unless a claim keeps it out.
     //
-    // The recursion is as deep as there are candidates.
+    // The recursion goes as deep as the number of candidates.
     fn follow(&self, set: CandSet, c: Candidate, reached: &mut Reached) -> Result<(), Halt>
         requires room { self.now.n ≤ ROOM }
         requires below { c < self.now.n }
@@ -87,7 +87,7 @@ impl Steps<'_> {
         Ok(())
     }
 
-    // Follows the steps by this candidate from each set that is reached, and from the empty set.
+    // Follows the steps with this candidate from each set that is reached, and from the empty set.
     fn follow_by(&self, c: Candidate, reached: &mut Reached) -> Result<(), Halt>
         requires room { self.now.n ≤ ROOM }
         requires below { c < self.now.n }
@@ -113,7 +113,7 @@ impl Steps<'_> {
         Ok(())
     }
 
-    // Follows the step by this candidate into the set, if the set without it is reached.
+    // Follows the step with this candidate into the set, if the set without the candidate is reached.
     fn follow_into(&self, set: CandSet, c: Candidate, reached: &mut Reached) -> Result<(), Halt>
         requires room { self.now.n ≤ ROOM }
         requires below { c < self.now.n }
@@ -134,8 +134,8 @@ impl Steps<'_> {
         }
     }
 
-    // Follows each step from what is reached that the assertion kept out, unless a claim does. If a claim is the same NEB, there is
-    // no such step.
+    // Follows each step from the reached sets that the assertion kept out, unless a claim keeps it out. If a claim is the same NEB, there is
+    // no step to follow.
     fn open(&self, a: &Assertion, reached: &mut Reached) -> Result<(), Halt>
         requires room { self.now.n ≤ ROOM }
         requires proper { IsTrue (is_proper self.now.n a.now) }
@@ -159,9 +159,9 @@ impl Steps<'_> {
         }
     }
 
-    /// Goes on from the sets that are reached with one claim more to those that are reached without it.
+    /// Extends the sets that are reached with one more claim to those that are reached without it.
     ///
-    /// The time grows with the number of new sets. For a NEB, each set that was reached is also looked at once.
+    /// The time grows with the number of new sets. For a NEB, each set that was already reached is also examined once.
     pub fn leave_out(&self, claim: &Claim, reached: &mut Reached) -> Result<(), Halt>
         requires room { self.now.n ≤ ROOM }
         requires proper { IsTrue (is_proper self.now.n claim.now.assertion) }

@@ -1,4 +1,4 @@
-// An assertion file without the claims that can go.
+// An assertion file without the claims that can be removed.
 ghost use Rattle.std.specs.Prelude.{◌≡◌, ◌≢◌, ◌<◌, ◌≤◌, ◌+◌, [], ◌∷◌, ◌++◌, None, Ok, Err, length, take, option_map, slice_index_or, All, IfOk, IfErr, IfSome, MatchBool};
 ghost use Rattle.irv_base.specs.declared.limits.TheConstants.{ROOM};
 ghost use Rattle.assertion_file.specs.Content.{candidate_count, IsDrawCount, IsSoundClaim};
@@ -23,8 +23,8 @@ use irv_base::{Candidate, Memory, ROOM};
 use std::alloc::Global;
 use suffix_walk::first_within;
 
-// Whether the claim with this number can go, by a trial of all that the others let stand. If it can, the counts become those of the
-// others.
+// Whether the claim with this number can be removed, by a trial of everything that the others let stand. If it can, the counts become
+// those of the others.
 fn whole_trial(
     all: &Without<'_>,
     winner: Candidate,
@@ -54,8 +54,8 @@ fn whole_trial(
     }
 }
 
-// Whether the claim at this place can go, where these are the others. The counts are those with the claim, and then those of what is
-// left.
+// Whether the claim at this index can be removed, given the others. The counts are those with the claim before the call, and those of
+// what is left after it.
 fn can_go_by_nodes(
     f: &AssertionFile,
     place: usize,
@@ -96,7 +96,7 @@ fn can_go_by_nodes(
     }
 }
 
-// Whether it can go, by what is known with the claim. Then that is what is known of what is left.
+// Whether the claim can be removed, by what is known with it. Afterward, this is what is known of what is left.
 fn can_go(
     alloc: Global,
     f: &AssertionFile,
@@ -124,7 +124,7 @@ fn can_go(
     }
 }
 
-// How many suffixes count with all claims of the file.
+// The number of suffixes that count with all claims of the file.
 fn first_counts(f: &AssertionFile, all: &Remaining<'_>, nodes: u32) -> [u32; ROOM as usize]
     requires covered { covered_is (candidate_count f.now) f.now.winner (assertions_of f.now) (Budget.Nodes nodes)
         ≡ Ok Verdict.Covered }
@@ -164,14 +164,14 @@ fn first_known(
     }
 }
 
-// What is left of the claims and of their draws. Without a plan there are no draws.
+// What is left of the claims and their draws. Without a plan there are no draws.
 #[derive(Drop)]
 struct Left {
     claims: Vec<Claim>,
     draws: Vec<Option<u32>>,
 }
 
-// One more of the draws that a plan has, if there is one.
+// Appends one of the plan's draws, if there is a plan.
 fn push_draws(
     draws: &mut Vec<Option<u32>>,
     plan: Option<&PlanFacts>,
@@ -238,7 +238,7 @@ fn plan_with(plan: Option<&PlanFacts>, draws: Vec<Option<u32>>) -> Option<PlanFa
     })
 }
 
-// The margin of the file with these of its claims.
+// The margin of the file with these claims.
 fn margin_left(f: &AssertionFile, claims: &[Claim]) -> u32
     ensures { result ≡ margin_left f.now claims.now }
 {
@@ -248,7 +248,7 @@ fn margin_left(f: &AssertionFile, claims: &[Claim]) -> u32
     }
 }
 
-// The file with these of its claims and of their draws.
+// The file with these claims and their draws.
 fn with_claims(alloc: Global, f: &AssertionFile, left: Left) -> Result<AssertionFile, Memory>
     requires some { 1 ≤ length left.claims.items }
     requires claims { All (IsSoundClaim (candidate_count f.now) f.now.records) left.claims.items }
@@ -275,11 +275,11 @@ fn with_claims(alloc: Global, f: &AssertionFile, left: Left) -> Result<Assertion
     }))
 }
 
-/// The file without the claims that can go, and without their draws. They are tried from the last to the first: a claim is dropped
-/// exactly where `covered`, at such a budget, says of those that are left without it that they cover. All else of the file stays, but for
-/// the margin of a file without an order: it's the smallest of those that are left.
+/// Returns the file without the claims that can be removed and without their draws. The claims are tried from last to first. A claim is
+/// dropped exactly if `covered`, with this budget, says that the claims that are left without it cover. Everything else in the file stays
+/// the same, except the margin of a file without an order, which becomes the smallest margin of the claims that are left.
 ///
-/// `Spent` or `SpentSets` comes exactly at the first trial for which `covered` says so. The other error is want of memory.
+/// The error is `Spent` or `SpentSets` exactly at the first trial for which `covered` says so. The other error is running out of memory.
 pub fn trim(alloc: Global, f: &AssertionFile, budget: Budget) -> Result<AssertionFile, TrimFault>
     requires { covered_is (candidate_count f.now) f.now.winner (assertions_of f.now) budget ≡ Ok Verdict.Covered }
     ensures { result ≢ Err TrimFault.Memory → result ≡ trimmed budget f.now }

@@ -1,5 +1,5 @@
-// The checker of files, on a contest of three candidates: its certificate is accepted, and each change of it is found. Ids are one above
-// the numbers of the candidates.
+// Tests of the checker of files, on a contest of three candidates: it accepts the certificate, and finds each change of it. Ids are one
+// above the numbers of the candidates.
 
 use crate::contests::{ONE, TWO, ZERO};
 use assertion_file::read_file;
@@ -34,7 +34,7 @@ fn checked<R: Abort + AllocGlobal + Threads + Sync>(
     check(alloc, &votes, &mut tallies, &file, budget)
 }
 
-// The answer to the certificate with one text in place of another.
+// The answer for the certificate with one text replaced by another.
 fn changed<R: Abort + AllocGlobal + Threads + Sync>(
     rt: &R,
     from: &str,
@@ -78,7 +78,7 @@ fn no_budget(rt: HostRuntime) {
     );
 }
 
-// Without its NEB an order stands, and three sets count.
+// Without its NEB the certificate leaves an order unrefuted, and three sets count.
 #[test]
 fn certificate_by_sets(rt: HostRuntime) {
     assert!(rt;
@@ -106,7 +106,7 @@ fn other_contests(rt: HostRuntime) {
     }
 }
 
-// The others tie for the last place, whom nobody ranks.
+// The other candidates, whom nobody ranks, tie for the last place.
 const TIED_BELOW: &str = "1\nContest,1,3,1,2,3\n1,t_1,1\n1,t_2,1\n1,t_3,1\n";
 
 const CERTIFICATE_TIED_BELOW: &str =
@@ -129,13 +129,13 @@ fn tie_that_changes_nothing(rt: HostRuntime) {
     assert!(rt; matches!(answer, Ok(Checked::OtherContest)));
 }
 
-// Five ballots for one of two candidates. Their certificate plans the draws for five cards.
+// There are five ballots for one of two candidates. Their certificate plans the draws for five cards.
 const FIVE_BALLOTS: &str = "1\nContest,1,2,1,2\n1,t_1,1\n1,t_2,1\n1,t_3,1\n1,t_4,1\n1,t_5,1\n";
 
 const CERTIFICATE_PLANNED: &str =
     "{\"assertions\":[{\"draws\":5,\"kind\":\"NEB\",\"loser\":\"2\",\"margin\":5,\"winner\":\"1\"}],\"candidates\":[\"1\",\"2\"],\"cards\":5,\"contest\":\"1\",\"gamma\":100,\"limit\":50000,\"margin\":5,\"order\":[\"1\",\"2\"],\"records\":5,\"version\":2,\"winner\":\"1\"}\n";
 
-// The answer to the planned certificate with one text in place of another.
+// The answer for the planned certificate with one text replaced by another.
 fn replanned<R: Abort + AllocGlobal + Threads + Sync>(
     rt: &R,
     from: &str,
@@ -160,7 +160,7 @@ fn planned_draws(rt: HostRuntime) {
     }
 }
 
-// With a limit of a millionth no five draws are enough, nor are six if there is a sixth card.
+// With a limit of a millionth five draws aren't enough, nor are six if there is a sixth card.
 #[test]
 fn planned_full_count(rt: HostRuntime) {
     for (from, to) in [
@@ -174,7 +174,7 @@ fn planned_full_count(rt: HostRuntime) {
     }
 }
 
-// The draws are judged last: for a file of another margin they aren't reported.
+// The draws are judged last, so for a file of another margin they aren't reported.
 #[test]
 fn draws_are_judged_last(rt: HostRuntime) {
     let draws = "\"draws\":5,\"kind\":\"NEB\",\"loser\":\"2\",\"margin\":5";
@@ -186,7 +186,7 @@ fn draws_are_judged_last(rt: HostRuntime) {
     assert!(rt; matches!(found, Ok(Checked::OtherMargin { index: 1, found: 5 })));
 }
 
-// Candidates 1 and 2 have a vote each; the tabulated order elects 2, whom no true claim proves the winner.
+// Candidates 1 and 2 have one vote each. The tabulated order elects 2, but no true claim proves that 2 wins.
 const TIED_FOR_THE_WIN: &str = "1\nContest,1,2,1,2\n1,t_1,1\n1,t_2,2\n";
 
 const CLAIM_OF_TWO: &str =

@@ -1,4 +1,4 @@
-// Files of version 3: those that are read, and those that are refused.
+// Tests of files of version 3: those that are read, and those that are refused.
 use super::THREE_CANDIDATES;
 use crate::texts::altered;
 use assertion_file::{FRule, FileFault, print_file, read_file};
@@ -13,7 +13,7 @@ const COVERED: &str =
 const PLANNED: &str =
     "{\"assertions\":[{\"draws\":5,\"kind\":\"NEB\",\"loser\":\"2\",\"margin\":5,\"winner\":\"1\"}],\"candidates\":[\"1\",\"2\"],\"cards\":5,\"contest\":\"1\",\"gamma\":100,\"limit\":50000,\"margin\":5,\"records\":5,\"version\":3,\"winner\":\"1\"}\n";
 
-// Whether the text is read, and printed again as it is; with a plan, if one is wanted.
+// Whether the text is read, with a plan if one is expected, and printed again unchanged.
 fn is_read(alloc: Global, text: &str, is_planned: bool) -> bool {
     let Ok(file) = read_file(alloc, text.as_bytes()) else {
         return false;
@@ -26,7 +26,7 @@ fn is_read(alloc: Global, text: &str, is_planned: bool) -> bool {
         && printed.as_slice() == text.as_bytes()
 }
 
-// Whether the text, with another one in place of `old`, is refused by F2 at this place.
+// Whether the text, with `old` replaced by another text, is refused by F2 at this place.
 fn refuses(alloc: Global, text: &str, old: &str, new: &str, at: u64) -> Result<bool, AllocError> {
     let text = altered(alloc, text, old, new)?;
     match read_file(alloc, text.as_bytes()) {

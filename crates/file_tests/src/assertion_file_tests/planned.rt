@@ -1,14 +1,14 @@
-// Files with a plan: those that are read and printed again, and those that are refused.
+// Tests of files with a plan: those that are read and printed again, and those that are refused.
 use crate::texts::altered;
 use assertion_file::{FRule, FileFault, print_file, read_file};
 use std::alloc::{AllocError, Global};
 use std::test::Fail;
 
-// Five ballots for one of two candidates, among as many cards.
+// Five ballots for one of two candidates, among five cards.
 const FIVE_BALLOTS: &str =
     "{\"assertions\":[{\"draws\":5,\"kind\":\"NEB\",\"loser\":\"2\",\"margin\":5,\"winner\":\"1\"}],\"candidates\":[\"1\",\"2\"],\"cards\":5,\"contest\":\"1\",\"gamma\":100,\"limit\":50000,\"margin\":5,\"order\":[\"1\",\"2\"],\"records\":5,\"version\":2,\"winner\":\"1\"}\n";
 
-// Whether the file with another text in place of `old` is read, and printed unchanged.
+// Whether the file, with `old` replaced by another text, is read and printed unchanged.
 fn stays(alloc: Global, old: &str, new: &str) -> Result<bool, AllocError> {
     let text = altered(alloc, FIVE_BALLOTS, old, new)?;
     let Ok(file) = read_file(alloc, text.as_bytes()) else {
@@ -20,7 +20,7 @@ fn stays(alloc: Global, old: &str, new: &str) -> Result<bool, AllocError> {
     }
 }
 
-// Whether it is refused by this rule at this place.
+// Whether this file is refused by this rule at this place.
 fn refuses(alloc: Global, old: &str, new: &str, rule: FRule, at: u64) -> Result<bool, AllocError> {
     let text = altered(alloc, FIVE_BALLOTS, old, new)?;
     match read_file(alloc, text.as_bytes()) {

@@ -1,4 +1,4 @@
-// The files of three candidates that are read, and those that are refused.
+// Tests of files of three candidates: those that are read, and those that are refused.
 use super::THREE_CANDIDATES;
 use crate::texts::altered;
 use assertion_file::{FRule, FileFault, print_file, read_file};
@@ -6,7 +6,7 @@ use file_fault::Rule;
 use std::alloc::{AllocError, Global};
 use std::test::Fail;
 
-// Whether the file of three candidates is refused by this rule at this place, with another text in place of `old`.
+// Whether the file of three candidates, with `old` replaced by another text, is refused by this rule at this place.
 fn refuses(alloc: Global, old: &str, new: &str, rule: FRule, at: u64) -> Result<bool, AllocError> {
     let text = altered(alloc, THREE_CANDIDATES, old, new)?;
     match read_file(alloc, text.as_bytes()) {
@@ -33,7 +33,7 @@ fn three_candidates(rt: HostRuntime) -> Result<(), Fail> {
     Ok(())
 }
 
-// Whether the file with another text in place of `old` is read, and printed as the file of three candidates.
+// Whether the file, with `old` replaced by another text, is read, and printed as the file of three candidates.
 fn says_the_same(alloc: Global, old: &str, new: &str) -> Result<bool, AllocError> {
     let text = altered(alloc, THREE_CANDIDATES, old, new)?;
     let Ok(file) = read_file(alloc, text.as_bytes()) else {

@@ -1,4 +1,4 @@
-// Tests of files whose contests are all read.
+// Tests of files of which all contests are read.
 use ballot_reader::{read_ballots, read_contests};
 use ballots::{BRule, BallotFault, Ballots, Ids};
 use irv_base::{Candidate, Name, Rankings};
@@ -6,7 +6,7 @@ use irv_base::{Candidate, Name, Rankings};
 const TWO: &[u8] =
     b"2\nContest,7,2,A,B\nContest,8,3,A,C,D\n7,b_1,A\n8,b_1,D,,C,D\n7,b_2,B,A\n8,b_3\n";
 
-// The ballots have the same ids in all contests, whose candidates stand in other orders, and nobody voted in the last.
+// The ballots have the same ids in all contests. The contests list their candidates in different orders, and nobody voted in the last one.
 const SAME_IDS: &[u8] =
     b"3\nContest,x,2,A,B\nContest,y,2,B,A\nContest,z,2,C,D\ny,b,A\nx,b,A\ny,c,B,A\nx,c,\n";
 
@@ -82,7 +82,7 @@ fn reads_one_contest(rt: HostRuntime) {
     assert!(rt; files[0].places() == [3].as_slice());
 }
 
-// What a file is refused by, whether all its contests are read or the one with this id.
+// The reason for which a file is refused, whether all its contests are read or only the one with this id.
 fn refusal(rt: &HostRuntime, file: &[u8], id: &[u8]) -> Option<(BRule, u64)> {
     let asked = Name::read(id)?;
     let all = read_contests(rt.alloc(), file).err()?;

@@ -1,11 +1,11 @@
-// Tests of files whose votes are read in pieces: each file is cut at every place, and says what it says whole.
+// Tests of files whose votes are read in pieces: each file is cut at every place, and says what it says when it is read whole.
 use ballot_reader::{VotesReader, read_ballots};
 use ballots::{BallotFault, Ballots, Votes};
 use irv_tabulator::{TabFault, tabulate};
 use set_tallies::Counted;
 use std::thread::Threads;
 
-// Files that are read, and files that are refused: for a contest or a ballot, before a quote or after one.
+// Files that are read, and files that are refused, for a contest or for a ballot, before a quote or after one.
 const FILES: [&[u8]; 9] = [
     b"\xEF\xBB\xBF1,more\r\n \t\r\nContest,7,3, 1,2,3 ,winner,2\r\n7,t_1,2,,2,3\n\n7,t_2\n",
     b"1\rContest,7,2,A,B\r7,b_1,A\r \r7,b_2,B,A\r",
@@ -61,7 +61,7 @@ fn same_tallies<R: AllocGlobal + Threads + Sync>(
     Ok(same)
 }
 
-/// Whether votes are those of ballots that were read whole, or are refused for the same.
+/// Whether votes are those of ballots that were read whole, or are refused for the same reason.
 pub fn is_same<R: AllocGlobal + Threads + Sync>(
     rt: &R,
     whole: &Result<Ballots, BallotFault>,

@@ -1,4 +1,4 @@
-// Tests of files that several workers read side by side: they say what they say to one worker.
+// Tests of files that several workers read in parallel: they say the same as when one worker reads them.
 use super::pieces::is_same;
 use ballot_reader::{VotesReader, read_ballots};
 use ballots::{BRule, BallotFault, Votes};
@@ -9,10 +9,10 @@ use std::thread::Threads;
 // This many ballots have more than `SIDE_BY_SIDE` bytes.
 const BALLOTS: u32 = 450_000;
 
-// The contest's lines, which are read before any ballot is.
+// The contest's lines, which are read before any ballot.
 const CONTEST: &[u8] = b"1\nContest,7,2,A,B\n";
 
-// A file of these ballots, their ids counted up, with `odd` as the record number `at`.
+// A file of these ballots, with increasing ids, and with `odd` as record number `at`.
 fn file_with(alloc: Global, at: u32, odd: &[u8]) -> Result<Vec<u8>, Memory> {
     let mut file = Vec::from_slice(alloc, CONTEST)?;
     for record in 3..BALLOTS + 3 {

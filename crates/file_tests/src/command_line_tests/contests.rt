@@ -1,4 +1,4 @@
-// Lines of `contests`, and words that are no such line.
+// Tests of lines of `contests`, and of words that aren't a line like this.
 use super::{is_taken, words};
 use command_line::{Command, read};
 use std::test::Fail;

@@ -1,4 +1,4 @@
-// Lines with a number of sets, and words with one that are no line.
+// Tests of lines with a number of sets, and of words with one that aren't a line.
 use super::{is_taken, words};
 use budget::Budget;
 use command_line::{Command, read};

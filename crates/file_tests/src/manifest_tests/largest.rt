@@ -1,4 +1,4 @@
-// The largest manifest, and one card more.
+// Tests of the largest manifest, and of one card more.
 use super::linking::{linked, ranked};
 use super::refused::is_refused;
 use irv_base::Candidate;
@@ -10,7 +10,7 @@ use std::test::Fail;
 const LARGEST: &str =
     "batch,cards\nb0,1000000\nb1,1000000\nb2,1000000\nb3,1000000\nb4,1000000\nb5,1000000\nb6,1000000\nb7,1000000\nb8,1000000\nb9,1000000\n";
 
-// The largest manifest and further lines.
+// The largest manifest and additional lines.
 fn with_lines(alloc: Global, lines: &str) -> Result<String, AllocError> {
     let mut text = String::from_str(alloc, LARGEST)?;
     text.push_str(lines)?;

@@ -1,9 +1,9 @@
-// Ballots that are linked to the cards with their ids, and those without a card.
+// Tests of ballots that are linked to the cards with their ids, and of ballots without a card.
 use ballot_reader::read_ballots;
 use irv_base::{Candidate, Name, Ranking};
 use manifest::{LinkFault, Linked, Recorded, link, read_manifest};
 
-/// The cards of a manifest linked to the ballots of a file, if both are read.
+/// The cards of a manifest linked to the ballots of a file, if both can be read.
 pub(super) fn linked(
     rt: &HostRuntime,
     manifest: &[u8],
@@ -47,7 +47,7 @@ const COUNTY: &str =
 
 const COUNTY_MANIFEST: &str = "batch,cards\n99813_1,10\n";
 
-// The same ballots, those with two digits first, over lines that are quoted or blank.
+// The same ballots, those with two digits first, with lines that are quoted or blank.
 const COUNTY_SHUFFLED: &str =
     "1\r\n\r\nContest,339,4,15,16,17,18,winner,16\r\n339,99813_1_10,15,16\r\n339,\"99813_1_9\",18\r\n\r\n339,99813_1_8,18,17\r\n339,99813_1_7,17\r\n\"339\",99813_1_6,17\r\n339,99813_1_5,17\r\n \t\r\n339,99813_1_4,16\r\n339,99813_1_3,16\r\n339,99813_1_2,16\r\n339,99813_1_1,16\r\n";
 

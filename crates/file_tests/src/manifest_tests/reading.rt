@@ -1,4 +1,4 @@
-// Manifests that are read.
+// Tests of manifests that are read.
 use manifest::read_manifest;
 
 #[test]

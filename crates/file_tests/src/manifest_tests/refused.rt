@@ -1,4 +1,5 @@
-// Manifests that are refused, each with its rule and its record. Blank lines have no number, so records are no lines.
+// Tests of manifests that are refused, each with its rule and its record. Blank lines have no number, so the number of a record isn't that of
+// its line.
 use manifest::{MRule, ManifestFault, read_manifest};
 
 /// Whether the manifest is refused by this rule at this record.

@@ -4,7 +4,7 @@ use Rattle.assertion_file.specs.Content.{Content}
 use Rattle.audit_report.specs.Plan.{all_need, claim_line, need_of}
 use Rattle.audit_report.proofs.plan.plan_table.Given as goal
 
--- so much is told of these claims
+-- what has been printed for these claims
 pub record AreTold (file : Content) (cards gamma limit : ℕ) (claims : List Claim) (text : List ℕ) (all : Option ℕ) : Type 0 where
   pub lines : text ≡ flat_map (λ claim. claim_line file.candidates claim (need_of file cards gamma limit claim)) claims
   pub need : all ≡ all_need (map (need_of file cards gamma limit) claims)

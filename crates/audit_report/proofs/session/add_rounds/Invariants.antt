@@ -3,7 +3,7 @@ use Rattle.session_state.specs.Sessions.{Session, is_confirmed_at}
 use Rattle.audit_report.specs.Session.{rounds_from}
 use Rattle.audit_report.proofs.session.add_rounds.Given as goal
 
--- so much is told of the rounds before place i, and these claims are confirmed by them
+-- what has been printed for the rounds before place i, and which claims they confirm
 pub record AreTold (session : Session) (i : ℕ) (confirmed : List Bool) (before text : List ℕ) : Type 0 where
   pub lines : text ++ rounds_from session (i + 1) (drop i session.rounds) ≡ before ++ rounds_from session 1 session.rounds
   pub each : length confirmed ≡ length session.margins

@@ -10,7 +10,7 @@ use Rattle.audit_session.proofs.AlikeCounted.{all-parted, length-parted, more-al
 use Rattle.audit_session.proofs.Counted.{claim-counts, one-claim-more}
 use Rattle.audit_session.proofs.counting.all_counts.Goals as goal
 
--- so many of the draws are left to be counted one by one
+-- this many of the draws are left to be counted one by one
 few-left : (drawn items : List Drawn) (left : ℕ) → items ≡ filter is_odd drawn → left ≡ length items →
     length (filter is_alike drawn) + left ≡ length drawn
 few-left drawn items left are long = omega (arith, length-parted drawn, ap length are, long)

@@ -18,7 +18,7 @@ items-long : (seed : List ℕ) (cards draws : ℕ) (seen : List Seen) (items : L
     length items ≡ draws
 items-long seed cards draws seen items are = ap length are ∙ length-map (drawn_cards seed cards draws) (seen_card seen) ∙ long seed cards draws
 
--- each of them is a card
+-- each number is that of a card
 is-card : (seed : List ℕ) (cards draws : ℕ) (seen : List Seen) (items : List SeenCard) → items ≡ map (seen_card seen) (drawn_cards seed cards draws) →
     1 ≤ cards → (i : ℕ) → i < length items → (one : SeenCard) → one ≡ get_or items i one → (1 ≤ one.card) × (one.card ≤ cards)
 is-card seed cards draws seen items are some i below one is =

@@ -20,7 +20,7 @@ all_counts-requires-clause-few g c =
     (all-draws (g.T.Claims.values c.args.claims.now) c.count-count.ensures.assorters before) in
     λ k d below. omega (arith, draws k d below, length-take c.args.had c.args.drawn.now, c.split_at.ensures.back_len, c.requires.most, c.requires.had)
 
--- all of them are counted
+-- all cards are counted
 counted : (values : List (List ℕ → ℕ)) (drawn front rest : List Drawn) (had : ℕ) (before counts : List Counts) →
     before ≡ all_counts values (take had drawn) → front ≡ take had drawn → drawn ≡ front ++ rest →
     ((earlier : List Drawn) → before ≡ all_counts values earlier → counts ≡ all_counts values (earlier ++ rest)) → counts ≡ all_counts values drawn

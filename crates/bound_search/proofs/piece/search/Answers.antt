@@ -9,7 +9,7 @@ use Rattle.bound_search.proofs.Views.{posted_view, closed_view}
 use Rattle.bound_search.proofs.piece.search.Goals as goal
 use Rattle.bound_search.proofs.piece.search.Goals.{In_ok-turn}
 
--- ---- a turn, over the tallies that the search began with
+-- ---- a turn, over the tallies with which the search began
 
 turned : (g : _) (c : In_ok-turn g) → IsTurn c.args.tallies.now.bag (c.args.nodes - c.expanded.result) c.turns.front c.turn.new.self c.in_ok-turn.field-0
 turned g c =

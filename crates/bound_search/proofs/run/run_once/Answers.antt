@@ -1,4 +1,4 @@
--- Each worker ran, and the seats and the bound at the end say the rest of the joined ends.
+-- Each worker ran, and the seats and the bound at the end give the rest about the joined ends.
 use Rattle.std.proofs.Common.{◌≡◌, ◌≤◌, List, All, map, replicate, length, refl, sym, ap, subst, arith, ◌∙◌}
 use Rattle.std.proofs.lemmas.List.{length-map, length-replicate}
 use Rattle.std.proofs.lemmas.List.Elements.{All-map, All-replicate, All-same}

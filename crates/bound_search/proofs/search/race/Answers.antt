@@ -1,4 +1,4 @@
--- The race is over the pieces of the tabulated winner, and what it came to says the rest.
+-- The race is over the pieces of the tabulated winner, and its result gives the rest.
 use Rattle.std.proofs.Common.{◌≡◌, All, Contains, true, Some, slice_get, map, length, refl, sym, ap, subst, arith, ◌∙◌}
 use Rattle.std.proofs.lemmas.List.Elements.{All-same}
 use Rattle.std.proofs.lemmas.Option.{slice_get_within, get_or_from_slice_get}
@@ -13,7 +13,7 @@ use Rattle.bound_search.proofs.Raced.{closed_where, costly_where, spent_where, e
 use Rattle.bound_search.proofs.search.race.Goals as goal
 use Rattle.bound_search.proofs.search.race.Goals.{In_ok-raced}
 
--- what the race came to, over the tails that it was run on
+-- the result of the race, over the tails on which it ran
 raced-is : (g : _) (c : In_ok-raced g) → IsRaced c.args.counted.now.bag c.args.nodes c.in_ok-first.field-0.tails.items c.args.workers
     c.in_ok-first.field-0.first c.in_ok-raced.field-0.raced
 raced-is g c =

@@ -1,4 +1,4 @@
--- A take finds no piece, and the worker is done; or it finds one, which is searched and noted.
+-- Either a take finds no piece, and the worker is done; or it finds one, which is searched and noted.
 use Rattle.std.proofs.Common.{◌≡◌, ◌≤◌, ◌<◌, ◌+◌, ◌*◌, ◌++◌, ◌∷◌, [], ℕ, List, All, Some, slice_get, sum_by, length, vec_len, map, sym, ap, subst, arith, false, not, ◌==◌, ◌∙◌}
 use Rattle.std.proofs.lemmas.Option.{slice_get_read}
 use Rattle.std.proofs.lemmas.List.{map_push, length_push}

@@ -12,7 +12,7 @@ on_err : {T E : Type 0} {P Q : E → Type 0} (r : Result T E) → ((e : E) → P
 on_err (Ok x) f h = h
 on_err (Err e) f h = f e h
 
--- what a loan of the whole has written back
+-- what a loan of the whole writes back
 all_written : {A : Type 0} (n : ℕ) (xs ys : List A) → length xs ≡ n → take n (xs ++ ys) ≡ xs
 all_written n xs ys len = ap (λ k. take k (xs ++ ys)) (sym len) ∙ take-append_seam xs ys
 

@@ -1,4 +1,4 @@
--- What was read so far is gone from what was left, was counted, and was taken.
+-- What was read so far is no longer in what is left, was counted, and was taken.
 use Rattle.std.proofs.Common.{◌≡◌, ◌-◌, true, max}
 use Rattle.std.specs.Io.KnownBytes.{Consumes}
 use Rattle.desk.specs.Passing.{too_long_after}

@@ -23,7 +23,7 @@ returns-in_err-found-clause-fault c = λ records of.
     subst (λ r. IfErr r (IsFault n records c.args.tab.now c.args.sets)) (sym given)
     (fault-more n records c.args.tab.now c.args.sets c.in_err-found.field-0.0 (c.in_err-found.ensures.fault records of))
 
--- the least margin is up to a best one
+-- the smallest margin is at most the best one
 under : (gap best least : ℕ) → least ≡ least_margin gap best → 1 ≤ best → least ≤ best
 under gap best least is some = let le = least-le gap best some in omega (arith, is, le)
 

@@ -5,7 +5,7 @@ use Rattle.nen_cut.specs.Floors.{sets_beside}
 use Rattle.fewest_search.proofs.Smaller.{beside-less}
 use Rattle.fewest_search.proofs.finding.nens_of.Goals as goal
 
--- what is spent by fewer sets is spent by more
+-- if the budget runs out for fewer sets, it also runs out for more
 spent-more : {T : Type 0} (sets few many : ℕ) (r : Result T NensFault) → few ≤ many → IfErr r (λ fault. fault ≡ Spent → sets < few) →
     IfErr r (λ fault. fault ≡ Spent → sets < many)
 spent-more sets few many (Ok x) le spent = tt

@@ -2,7 +2,7 @@ use Rattle.std.proofs.Common.{◌≡◌, ◌≤◌, ◌+◌, ◌++◌, length, m
 use Rattle.std.specs.Vec.{vec_capacity}
 use Rattle.irv_base.proofs.lists.push_moved.Given as goal
 
--- those before here are put last, and there is room for the others
+-- those before this place are appended, and there is room for the others
 abbrev pub invariant-loop-begin : goal.invariant-loop-begin
 invariant-loop-begin l = record {
   moved : l.begins.items ≡ l.fn.begins.items ++ map (λ begin. l.elements + begin) (take l.begin-index l.others);

@@ -1,4 +1,4 @@
--- The session is as it was before the first try, so the answer to the second one is its own.
+-- The session is as it was before the first try, so the answer to the second try is its own.
 use Rattle.std.proofs.Common.{subst}
 use Rattle.raire_cases.specs.Going.{GoesOn}
 use Rattle.raire_cases.proofs.again.go_on.Goals as goal

@@ -1,4 +1,4 @@
--- Each clause follows from the story of the call: what was due, and what the sinks took of it.
+-- Each clause follows from the story of the call, which is what was due and what the sinks took of it.
 use Rattle.cli_base.specs.Due.{due}
 use Rattle.cli_base.proofs.Clauses.{answered_clause, kept_clause}
 use Rattle.cli_base.proofs.Faults.{read_told}

@@ -13,7 +13,7 @@ no-number : (n : ℕ) → (n == 0) ≡ true → nat_le 1 n ≡ false
 no-number zero h = refl
 no-number (suc n) h = let zero-is = eqb-true (suc n) 0 h in absurd (omega arith)
 
--- with a round, it is signed off where each claim is within the limit at the end of some round
+-- if there is a round, the session is signed off if each claim is within the limit at the end of some round
 signed-form : (session : Session) → 1 ≤ length session.rounds →
     is_signed_off session ≡ list_all (λ claim. list_any (meets session.limit claim) session.rounds) (range_with_len 0 (length session.margins))
 signed-form session some =

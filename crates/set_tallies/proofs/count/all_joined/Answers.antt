@@ -10,7 +10,7 @@ use Rattle.set_tallies.proofs.Noted.{next-few, joined-push}
 use Rattle.set_tallies.proofs.count.all_joined.Goals as goal
 use Rattle.set_tallies.proofs.count.all_joined.Goals.{In-Some}
 
--- the lists that were joined, and those to come
+-- the lists that were joined, and those still to come
 lists-are : (c : In-Some) → c.args.noted.items ≡ c.loop-entries.yielded ++ c.in-Some.entries ∷ into_iter_items c.next.new.self
 lists-are c =
     sym c.into_iter-entries-iterator.ensures.into_iter_gives.0 ∙ c.loop-entries.invariant.whole

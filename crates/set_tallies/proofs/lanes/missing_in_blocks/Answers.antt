@@ -7,7 +7,7 @@ use Rattle.set_tallies.proofs.Paired.{counted, next-votes, first-votes}
 use Rattle.set_tallies.proofs.lanes.missing_in_blocks.Goals as goal
 use Rattle.set_tallies.proofs.lanes.missing_in_blocks.Goals.{After-counts_missing-votes}
 
--- the votes of the next block, with those before it
+-- the votes of the next block, together with those before it
 next : (c : After-counts_missing-votes) → sum_l c.loop-block.votes + sum_l c.counts_missing-votes.result
     ≡ missing c.args.set (take (c.loop-block.block * 8 + 8) (paired c.args.sets.now c.args.counts.now))
 next c =

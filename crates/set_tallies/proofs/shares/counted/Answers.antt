@@ -16,13 +16,13 @@ loop-share-init g c = record {
   counted = none-counted c.args.n c.share_size-size.result c.args.rankings.now c.in_ok-table.table.items c.in_ok-table.ensures.long c.in_ok-table.ensures.zeros;
 }
 
--- the shares that were added, and those to come
+-- the shares that were added, and those still to come
 shares-are : (g : _) (c : In_ok-share g) → c.in_ok-shares.shares.items ≡ c.loop-share.yielded ++ c.in-Some.share ∷ into_iter_items c.next.new.self
 shares-are g c =
     sym c.into_iter-share-iterator.ensures.into_iter_gives.0 ∙ c.loop-share.invariant.whole
     ∙ ap (λ (rs : List (Result (Vec ℕ Global) Memory)). c.loop-share.yielded ++ rs) c.in-Some.ensures.steps.0
 
--- the share in turn
+-- the current share
 share-is : (g : _) (c : In_ok-share g) → IsCountOf c.args.n (slice_chunk c.args.rankings.now c.share_size-size.result (length c.loop-share.yielded))
     c.in_ok-share.field-0.items
 share-is g c =

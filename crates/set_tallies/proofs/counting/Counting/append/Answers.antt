@@ -8,7 +8,7 @@ use Rattle.set_tallies.proofs.Tables.{all-written}
 use Rattle.set_tallies.proofs.counting.Counting.append.Goals as goal
 use Rattle.set_tallies.proofs.counting.Counting.append.Goals.{After-deref, then-others-eq0, else-others-eq0}
 
--- both have as many candidates
+-- both have the same number of candidates
 same : (c : After-deref) → c.others.inside.n ≡ c.self.inside.n
 same c = ap (λ r. r.n) c.others.view_is ∙ c.requires ∙ sym (ap (λ r. r.n) c.self.view_is)
 

@@ -10,7 +10,7 @@ KEYS = {
     "Enter": (13, "\r"), " ": (32, " "), "Tab": (9, ""), "Backspace": (8, ""), "PageUp": (33, ""), "PageDown": (34, ""),
     "ArrowLeft": (37, ""), "ArrowUp": (38, ""), "ArrowRight": (39, ""), "ArrowDown": (40, ""),
 }
-PATIENCE = 10  # the most seconds to wait for anything
+PATIENCE = 10  # the maximum number of seconds to wait for anything
 
 
 def found():

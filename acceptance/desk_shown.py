@@ -16,7 +16,7 @@ class Shown(NamedTuple):
     """The section of a page that goes through an audit in a shell."""
     page: str
     section: str
-    renamed: dict = {}  # the desk's name of a file, where it differs
+    renamed: dict = {}  # the desk's name of a file, if it differs
     printed: dict = {}  # the desk's file that ends with what a command prints, by how the command begins
     aside: tuple = ()  # files that are made there and aren't part of the audit
     terms: str = ""

@@ -13,7 +13,7 @@ import urllib.parse
 
 TOP = os.path.dirname(os.path.dirname(os.path.abspath(__file__)))
 RAIRE = os.path.join(TOP, "raire")
-PATIENCE = 600  # the most seconds to wait for anything
+PATIENCE = 600  # the maximum number of seconds to wait for anything
 HOST = "127.0.0.1"
 PR_SET_PDEATHSIG = 1
 

@@ -301,7 +301,7 @@ class Tried:
         return ran.returncode, ran.stdout, ran.stderr.decode()
 
     def says(self, words, line):
-        """This line comes after the program's own line, and everything else is the program's."""
+        """Checks that this line comes after the program's own line, and that everything else is the program's."""
         status, out, err = self.ran(words, self.program)
         got = self.ran(words)
         self.see(f"{words} has {line}", got == (status, out, err + f"raire: {line}\n"), got)

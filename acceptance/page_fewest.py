@@ -60,7 +60,7 @@ def true_assertions(contest, least):
 
 
 def wrong_with(contest, file, orders):
-    """Why the definitions contradict that these orders need a NEN each, or None."""
+    """How the definitions contradict the claim that these orders need a NEN each, or None."""
     if any(sorted(order) != list(range(contest.n)) or contest.ids[order[-1]] == file["winner"] for order in orders):
         return "one of them doesn't elect another candidate"
     for assertion in true_assertions(contest, file["margin"]):

@@ -4,7 +4,7 @@
 acceptance/parts.py PROGRAM [FILES] makes FILES files (80 by default): with ids that are counted up, shuffled, of several forms or without a common start,
 with line ends of three kinds, blank lines and a second contest. In most of them one record is broken, or repeats the id of any earlier record. Some have a
 double quote, a byte order mark or an id that is also in the other contest, which breaks nothing. With 1, 2, 3 and 8 workers a search must refuse the file
-by the rule that a plain reading finds first, and at its record, or else print the same. The last line says how many agreed.
+by the rule that a plain reading finds first, and at its record; otherwise it must print the same. The last line says how many agreed.
 """
 import os
 import subprocess

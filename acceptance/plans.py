@@ -72,7 +72,7 @@ REFUSED = [
     (put(CARDS, '"cards":4', '"order":["1","2"]', '"order":["1"]'), "F5 at 0"), (put(CARDS, '"cards":4', DRAWS, ""), "F6 at 0"),
 ]
 
-# further words of a search for cards that are bad
+# extra words that make a search for cards bad words
 BAD_WORDS = [
     "--limit 50000", "--gamma 100", "--limit=50000 --gamma=100", "--cards 0", f"--cards {MOST_CARDS + 1}", "--cards", "--cards=", "--cards x", "--cards 5 --cards 5",
     "--cards 5 --limit 0", f"--cards 5 --limit {GREATEST_LIMIT + 1}", "--cards 5 --gamma 0", f"--cards 5 --gamma {GREATEST_GAMMA + 1}", "--cards 5 --draws 5",

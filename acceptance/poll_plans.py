@@ -138,7 +138,7 @@ def several():
     for seed in range(4):
         source = random.Random(seed)
         values = [[2] * ((1_000 + margin) // 2) + [0] * ((1_000 - margin) // 2) for margin in margins]
-        for each in values[seed:]:  # with 0, the cards are combined in every way; with 3, nearly all agree
+        for each in values[seed:]:  # with 0, the cards are combined in any way; with 3, nearly all agree
             source.shuffle(each)
         for share, draws in ((0.5, half), (0.9, nine)):
             drawn = [[source.randrange(1_000) for _ in range(draws)] for _ in range(500)]

@@ -115,8 +115,8 @@ def draws_in(words):
 
 
 def are_right(text, draws):
-    """The counts are of all draws. No risk is below the smaller of the exact risk and 1, nor above it by more than a unit a draw, scaled by the draws with
-    0."""
+    """The counts are of all draws. Each risk is at least the exact risk or 1, whichever is smaller, and at most a unit a draw above that, scaled by the
+    draws with 0."""
     head, *claims = text.splitlines()[3:-1]
     gamma = int(head.removeprefix("gamma "))
     for line in claims:

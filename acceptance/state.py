@@ -3,8 +3,8 @@
 
 acceptance/state.py PROGRAM [CONTESTS [COUNTIES [INSTANTS]]] first goes through a small state that was made by hand: each output is compared with the same
 command typed, and refused files and tables with their lines. Then come programs that answer with each status. Then it makes a state (24 contests in 8
-counties by default). It runs the state, runs a copy that is killed at INSTANTS instants (4 by default) and cut off, and runs one on Slurm, where one job is
-cancelled, another is killed, and a node is lost. The digests must be the same, and what was whole isn't made again. The last line says how many checks
+counties by default). It runs the state, runs a copy that is killed at INSTANTS instants (4 by default) and cut off, and runs a copy on Slurm, where one job
+is cancelled, another is killed, and a node is lost. The digests must be the same, and what was whole isn't made again. The last line says how many checks
 passed. If Snakemake or Slurm isn't installed, what needs it isn't tried, and a line says so.
 """
 import os

@@ -3,7 +3,8 @@
 
 acceptance/assertion_files.py PROGRAM [FILES] checks each file of the tables below against examples/row1.raire. Then it takes what a search prints for
 generated contests: one in three in version 1, the others in version 2, with draws, and some of both without their order, as version 3. It changes what is
-printed and checks FILES of these changed files (1,500 by default). Each answer is also compared with plain.py. The last lines say how many came out as they should.
+printed and checks FILES of these changed files (1,500 by default). Each answer is also compared with plain.py. The last lines say how many came out as
+they should.
 """
 import collections
 import copy

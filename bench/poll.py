@@ -1,8 +1,8 @@
 #!/usr/bin/env python3
 """Times `raire poll`, and prints how many draws a poll takes compared with a comparison audit.
 
-    bench/poll.py            a poll of 1,000,000 cards, 30 assertions and 10,000 draws, and one of the same files and one draw; the last number is
-                             what the draws take. The best of five runs each counts. Then the same with a look after each draw
+    bench/poll.py            a poll of 1,000,000 cards, 30 assertions and 10,000 draws, and a poll of the same files with one draw; the last number
+                             is what the draws take. The best of five runs of each counts. Then the same with a look after each draw
     bench/poll.py draws      for margins of a contest of two candidates and 10,000 cards, each of them for one or the other: the draws of a clean
                              comparison by `raire plan`, and the draws after which half, and nine in ten, of 200 seeds are confirmed by a
                              poll with a look after each draw and the gamma that fits, and by polls without; the program confirms each at that

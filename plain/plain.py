@@ -85,7 +85,7 @@ def tabulated(contest):
 
 
 def possible_winners(contest):
-    """The set of candidates who win when each tie is broken in every way."""
+    """The set of candidates who can win, over all ways of breaking each tie."""
     known = {}
 
     def from_here(standing):
@@ -317,7 +317,7 @@ def depth(text):
 
 
 def json_value(data):
-    """The value of the bytes. The last member with a repeated name counts, but each must be JSON."""
+    """The value of the bytes. If a name is repeated, the last member counts, but each must be JSON."""
     text = data.decode()
     if depth(text) > MOST_DEPTH:
         raise ValueError("nested too deep")

@@ -215,7 +215,7 @@ class Flow:
 
 
 def by_flow(steps):
-    """How many NENs are needed, besides all NEBs of the margin: there are that many orders, no two of which one NEN refutes."""
+    """How many NENs are needed, besides all NEBs of the margin: there are that many orders such that no NEN refutes two of them."""
     flow, seen = Flow(steps), set()
     for order in flow.orders():
         assert order[-1] != steps.winner and sorted(order) == list(range(steps.n))

@@ -8,7 +8,7 @@ def firsts(contest):
 
 
 def claims(contest):
-    """The claim that the winner has more first preferences than each loser, in the contest's order, and how many more; or the tie."""
+    """For each loser, in the contest's order, the claim that the winner has more first preferences, and how many more; or the tie."""
     counts = firsts(contest)
     leaders = [c for c in range(contest.n) if counts[c] == max(counts)]
     if len(leaders) > 1:

@@ -24,7 +24,7 @@ class Found(NamedTuple):
 
     @property
     def sets(self):
-        """A smaller budget isn't enough."""
+        """The smallest budget that is enough."""
         return max(self.cover, self.before)
 
 

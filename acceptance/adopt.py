@@ -1,11 +1,11 @@
 #!/usr/bin/env python3
 """Compares adoptions by the built program with plain_adopt.py.
 
-acceptance/adopt.py PROGRAM [CLAIMS] makes so many sets of claims, 2,000 if no number is given, for contests of 2 to 6 candidates, some of 8. Some are the
-assertions of a search, whole or without one; others have more that are true, some that aren't, or only true ones by chance. Some are there twice, in another
-order, with other margins or members, or name candidates that aren't there. Status and text have to be those of the plain program, with many nodes or sets and
-with few. What is adopted has to be accepted by `check` with the same budget, and adopted once more it stays the same. The last line says how many agreed, and
-how they ended.
+acceptance/adopt.py PROGRAM [CLAIMS] makes CLAIMS sets of claims (2,000 by default) for contests of 2 to 6 candidates, a few of 8. Some sets are the
+assertions of a search, all of them or all but one. Others have more assertions that are true, some that aren't true, or only random ones that are true.
+Some have claims twice, in another order or with other margins or members, or name candidates that aren't there. The status and the text must be those of
+the plain program, with many nodes or sets and with few. `check` must accept what is adopted with the same budget, and adopting it once more must not change
+it. The last line says how many sets agreed, and how they ended.
 """
 import json
 import os
@@ -30,7 +30,7 @@ def ran(program, *words):
 
 
 def any_assertion(contest, draws):
-    """One between two different candidates, true or not."""
+    """An assertion between two different candidates, true or not."""
     winner = draws.below(contest.n)
     loser = (winner + 1 + draws.below(contest.n - 1)) % contest.n
     rest = frozenset(c for c in range(contest.n) if draws.below(2)) | {winner, loser}
@@ -87,7 +87,7 @@ class Claims:
         self.winner = self.draws.below(self.contest.n)
 
     def value(self):
-        """The value of the file, with a margin that says nothing."""
+        """The value of the file, with margins that mean nothing."""
         ids = self.contest.ids
         entries = []
         for kind, winner, loser, *rest in self.assertions:
@@ -109,7 +109,7 @@ WAYS = ("less", "more", "by_chance", "untrue", "doubled", "in_another_order", "a
 
 
 def broken(value, draws):
-    """The value with something that a rule refuses."""
+    """Changes the value so that a rule refuses it."""
     entries, candidates = value["assertions"], value["candidates"]
     entry = entries[draws.below(len(entries))] if entries else {}
     return [
@@ -139,7 +139,7 @@ def wanted(contest, data, budget, path):
 
 
 def faults(program, folder, contest, data, draws):
-    """What differs, and how the adoption with the default budget ends."""
+    """The differences found, and how the adoption with the default budget ends."""
     ballots, path, again = (os.path.join(folder, name) for name in ("ballots.raire", "claims.json", "adopted.json"))
     with open(path, "wb") as file:
         file.write(data)

@@ -1,10 +1,10 @@
 #!/usr/bin/env python3
-"""Assertion files that hold, that differ or that are refused, tried on the built program.
+"""Assertion files that are accepted, that differ or that are refused, tried on the built program.
 
-acceptance/assertion_files.py PROGRAM [FILES] checks each file of the tables below against examples/row1.raire. Then it
-takes what a search prints of generated contests, one of three in version 1 and the others in version 2, with draws, or either without its
-order as version 3, changes it, and checks so many files, 1,500 if no number is given. Each answer is also compared with plain.py. The last lines say how many came out
-as they should.
+acceptance/assertion_files.py PROGRAM [FILES] checks each file of the tables below against examples/row1.raire. Then it takes what a search prints for
+generated contests: one in three in version 1, the others in version 2, with draws, and some of both without their order, as version 3. It changes what is
+printed and checks FILES of these changed files (1,500 by default). Each answer is also compared with plain.py. The last lines say how many came out as
+they should.
 """
 import collections
 import copy
@@ -35,7 +35,7 @@ NEN_1 = b'{"kind":"NEN","loser":"3","margin":2,"rest":["1","2","3"],"winner":"1"
 
 
 def put(*changes):
-    """What is printed, each text in it replaced by the one behind it."""
+    """What is printed, with each text replaced by the text after it."""
     data = PRINTED
     for old, new in zip(changes[::2], changes[1::2]):
         assert data.count(old) == 1, old
@@ -56,7 +56,7 @@ def without(name):
 
 
 def covered(*changes):
-    """What is printed without its order, with the changes."""
+    """What is printed without its order, with these changes."""
     return put(ORDER + b",", b"", VERSION, b'"version":3', *changes)
 
 
@@ -77,7 +77,7 @@ FIRST_2, SECOND_2, THIRD_2 = (with_member(claim, draws=None) for claim in (NEB, 
 
 
 def further(value):
-    """What is printed with a further member of this value."""
+    """What is printed, with one more member, of this value."""
     return put(VERSION, b'"note":' + value + b"," + VERSION)
 
 
@@ -97,7 +97,7 @@ def rest(text):
     return put(REST, b'"rest":' + text)
 
 
-# what it shows, the file, how many assertions, further words
+# what it shows, the file, the number of assertions, further words
 ACCEPTED = [
     ("what a search prints", PRINTED, 3),
     ("the contest by its id", PRINTED, 3, "--contest", "1"),
@@ -120,7 +120,7 @@ ACCEPTED = [
     ("127 levels", further(b"[" * 126 + b"]" * 126), 3),
 ]
 
-# the same of files without an order, whose margin isn't said to be the best
+# the same for files without an order, whose margin isn't said to be the best
 COVERING = [
     ("what a search prints, without its order", covered(), 3),
     ("an assertion less, which isn't needed, and no order", covered_by(NEB, NEN_2), 2),
@@ -307,7 +307,7 @@ def ran(program, ballots, path, words):
 
 
 def answer(contest, path, data, nodes):
-    """What plain.py says, with the text of a refusal as the program writes it."""
+    """What plain.py says, with a refusal in the program's words."""
     try:
         return *plain.judge(contest, data, nodes), ""
     except plain.Refused as refused:
@@ -362,12 +362,12 @@ def off_by_one(draws, holder, name):
 
 
 def claim_in(draws, file):
-    """An assertion of the file; one that isn't in it if it has none."""
+    """An assertion of the file, or one that isn't in it if it has none."""
     return one_of(draws, file["assertions"] or [{"kind": "NEB", "loser": "", "margin": 1, "winner": ""}])
 
 
 def true_claim(draws, contest, file):
-    """A proper assertion, with its margin and, where there is a plan, its draws."""
+    """A proper assertion, with its margin and, if there is a plan, its draws."""
     w = draws.below(contest.n)
     l = (w + 1 + draws.below(contest.n - 1)) % contest.n
     standing = sorted({w, l} | {c for c in range(contest.n) if draws.below(2)})
@@ -518,7 +518,7 @@ CHANGES_3 = [reorder_version, redraw, remove, remargin, drop, drop, add, add, re
 
 
 def damaged(draws, data):
-    """The bytes with one of them changed, or cut."""
+    """The bytes with one of them changed, or cut off."""
     at = draws.below(len(data))
     if draws.below(3):
         return data[:at] + bytes([one_of(draws, b'"{}[],:0129eE.+-\\ u\x00\x7f\xc3\xff')]) + data[at + 1:]
@@ -532,18 +532,18 @@ def changed(draws, contest, printed):
             changes = [*(CHANGES_2 if "cards" in printed else CHANGES), *([] if "order" in printed else CHANGES_3)]
             one_of(draws, changes)(draws, contest, file)
     except (AttributeError, KeyError, TypeError):
-        pass  # the first change took away what the second one wanted
+        pass  # the first change removed what the second one needed
     data = compact(file) + b"\n"
     return data if draws.below(10) else damaged(draws, data)
 
 
 def plan_of(draws, contest):
-    """Cards, limit and gamma of a file with draws."""
+    """The cards, limit and gamma of a file with draws."""
     return plain.Plan(contest.records + draws.below(one_of(draws, [3, 100, 10_000])), 1 + draws.below(400_000), 1 + draws.below(GREATEST_GAMMA))
 
 
 def printed_of(contest, plan):
-    """What a search prints, or, where the contest isn't decided, some file of it."""
+    """What a search prints, or, if the contest isn't decided, some file for it."""
     try:
         return json.loads(plain.certificate(contest, plan))
     except plain.Tie:

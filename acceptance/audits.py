@@ -1,11 +1,11 @@
 #!/usr/bin/env python3
 """Whole audits, from the search to the report, compared with plain_audit.py.
 
-acceptance/audits.py PROGRAM [AUDITS] first goes through audits that were worked out by hand. Then it makes so many
-others, 1,000 if no number is given: a contest of 2 to 5 candidates, now and then of 21 to 32 with few strong ones, in some files
-beside another one, assertions with draws or without, a manifest with cards that have no ballot, and what was seen of the cards, now and then another ranking or no card; in most of them something is
-damaged. Each command of an audit is run by plain_audit.py and, where the program has it, by the program: status and both
-texts have to agree. The last line says how many commands did.
+acceptance/audits.py PROGRAM [AUDITS] first goes through audits that were worked out by hand. Then it makes AUDITS others (1,000 by default): a contest of 2
+to 5 candidates, now and then one of 21 to 32 with few strong ones, in some files together with another contest; assertions with draws or without; a
+manifest with cards that have no ballot; and what was seen of the cards, now and then another ranking or no card. In most audits something is damaged.
+plain_audit.py runs each command of an audit, and so does the program if it has the command. The status and both texts must agree. The last line says how
+many commands were run, and how many of them disagreed.
 """
 import collections
 import json
@@ -26,20 +26,20 @@ UNIT = plain_audit.UNIT
 
 
 class Runs:
-    """Runs lines of words in a folder, and counts what comes out."""
+    """Runs lines of words in a folder, and counts the results."""
 
     def __init__(self, program):
         self.program, self.failed, self.statuses = os.path.abspath(program), 0, collections.Counter()
         self.commands = {name for name in plain_audit.COMMANDS if self.knows(name)}
 
     def knows(self, name):
-        """No line of the command is bad words where its files are missing or its values are given."""
+        """Whether the program has this command: a line of it with missing files and with values given isn't bad words."""
         _, files, must, _ = plain_audit.COMMANDS[name]
         words = [name, *["no_such_file"] * files, *[f"--{option}=1" for option in must.split()]]
         return subprocess.run([self.program, *words], capture_output=True).returncode != 1
 
     def run(self, words):
-        """What the plain program answers; the built one has to agree."""
+        """What the plain program answers; the built one must agree."""
         wanted = plain_audit.run(words)
         self.statuses[words[0], wanted[0]] += 1
         if words[0] in self.commands:
@@ -57,7 +57,7 @@ class Runs:
                 print(f"  {name}: {file.read()[:2000]}")
 
     def row(self, words, wanted):
-        """A command whose answer was worked out by hand."""
+        """Runs a command whose answer was worked out by hand."""
         got = self.run(words.split())
         if got != wanted:
             self.differ(words.split(), wanted, got)
@@ -98,7 +98,7 @@ ASSERTIONS = (
 
 
 def one_card(runs):
-    """The audit of one card, round by round, and what is refused of it."""
+    """The audit of one card, round by round, and what is refused in it."""
     write("ballots.raire", BALLOTS)
     write("manifest.csv", MANIFEST)
     write("seen.csv", SEEN)
@@ -196,7 +196,7 @@ POLL_WORDS = ["poll", "manifest.csv", "a.json", "s.csv"]
 
 
 def words(runs):
-    """Lines whose seeds, draws and the like are out of their ranges, or that lack what must be given."""
+    """Lines whose seeds, draws and the like are out of range, or that lack what must be given."""
     for line in [
         ["sample", "manifest.csv", "--draws", "1"], ["sample", "manifest.csv", "--seed", "1"],
         ["sample", "manifest.csv", "--seed", "", "--draws", "1"], ["sample", "manifest.csv", "--seed", "x" * (MOST_SEED_BYTES + 1), "--draws", "1"],
@@ -221,14 +221,14 @@ def words(runs):
             runs.differ(line, 1, plain_audit.run(line))
 
 
-# ---- audits that are made
+# ---- audits that are generated
 
 def one_of(draws, choices):
     return choices[draws.below(len(choices))]
 
 
 def rankings_of(draws, ids):
-    """Ballots, of which few leave open who has won."""
+    """Ballots; few of these contests leave open who has won."""
     while True:
         rankings = compare.contest_of(draws, len(ids), 4 + draws.below(24))
         try:
@@ -269,11 +269,11 @@ class Made:
         return lines(len(head), *head, *rows)
 
     def contest_words(self):
-        """One in ten files with two contests is left without a word for the contest that is meant."""
+        """The words that name the contest; one in ten files with two contests gets none."""
         return ["--contest=9"] if self.has_two and self.draws.below(10) else []
 
     def seen_text(self):
-        """All cards are seen as they are recorded, but in an audit that isn't clean one in eight."""
+        """All cards are seen as they are recorded, except that one in eight may differ in an audit that isn't clean."""
         rows = []
         for card in self.cards:
             ranking = self.ballots.get(card, ())
@@ -350,7 +350,7 @@ def damage_seen(draws):
 
 
 def damage_assertions(draws):
-    """An assertion less, another margin, or other draws."""
+    """Removes an assertion, or changes a margin or draws."""
     with open("assertions.json") as file:
         published = json.load(file)
     claim = one_of(draws, published["assertions"])
@@ -371,7 +371,7 @@ DAMAGES = [("session.json", damage_session)] * 3 + [("seen.csv", damage_seen)] *
 
 
 def audit(runs, draws):
-    """One audit; the damage comes before one of its commands."""
+    """Runs one audit; the damage comes before one of its commands."""
     contest = Made(draws, may_have_two=True, may_be_many=True).contest_words()
     seed = one_of(draws, ["2024", 'a "seed"', "a, b\\c"])
     options = ["--gamma", str(1 + draws.below(500))] if draws.below(3) == 0 else []
@@ -415,7 +415,7 @@ def in_folder(make, *given):
 
 
 def made(job):
-    """The runs of so many audits, made from one number."""
+    """The runs of `count` audits, made from one number."""
     program, number, count = job
     runs, draws = Runs(program), Draws(number)
     for _ in range(count):

@@ -1,6 +1,6 @@
-"""Calls of the office's tools that are refused. Each case makes files in a folder, and has the tool, its words, the status, and how its line begins.
+"""Calls of the office's tools that are refused. Each case makes files in a folder, and gives the tool, its words, the status, and how its line begins.
 
-Exports that can't be read stand in bad_exports.py. acceptance/refusals.py makes the calls, in that folder.
+The exports that can't be read are in bad_exports.py. acceptance/refusals.py makes the calls, in that folder.
 """
 import json
 import os
@@ -18,7 +18,7 @@ TIE = "1\nContest,m,2,Ann,Ben\nm,b_1,Ann\nm,b_2,Ben\n"
 MANIFEST = "batch,cards\nb,9\n"
 NAMES = "contest,id,name\nm,Ann,A\ns,Fox,F\n"
 DRAWN = ["m.csv", "--seed=1", "--draws=2"]
-TOO_LONG = MOST_FILE_BYTES + 1  # bytes of a file that has nothing but zeros
+TOO_LONG = MOST_FILE_BYTES + 1  # the size of a file of nothing but zeros
 
 
 def put(folder, name, content):
@@ -33,7 +33,7 @@ def put(folder, name, content):
 
 
 def case(name, call, told, status=2, **files):
-    """A call, with files by their names; an underscore in a name stands for a dot."""
+    """A call, with its files by name; an underscore in a name stands for a dot."""
     def make(folder):
         for each, content in files.items():
             put(folder, each.replace("_", "."), content)
@@ -43,7 +43,7 @@ def case(name, call, told, status=2, **files):
     CASES[name] = make
 
 
-# ---- the words and the outputs of all
+# ---- words and outputs that all tools share
 
 case("a file that isn't there", ["agree", "a.csv", "none.csv"], "none.csv: no such file", 12, a_csv="b_1,ballot\n")
 case("a folder", ["agree", "a.csv", "."], ".: read fault", 7, a_csv="b_1,ballot\n")
@@ -121,7 +121,7 @@ CALLED = "contest,id,name\nm,,Mayor\nm,1,Ann\nm,2,Ben\nm,3,Cy\n"
 
 
 def solution(*claims, metadata=(), result=()):
-    """The text of a solution with these claims, with other members of its metadata and its result."""
+    """The text of a solution with these claims, and with other members in its metadata and its result."""
     found = {"assertions": [{"assertion": claim, "margin": 1} for claim in claims], **SERVICE["solution"]["Ok"], **dict(result)}
     return json.dumps({"metadata": {**SERVICE["metadata"], **dict(metadata)}, "solution": {"Ok": found}})
 
@@ -397,7 +397,7 @@ nist("a contest twice", "report1.json: CVR 1: contest c: is on the card twice", 
 
 
 def zip_without_its_beginning(folder):
-    """The list at the end of the zip names places before the file."""
+    """Makes a zip whose final list gives places that lie before the start of the file."""
     bad_exports.dominion(folder, bad_exports.session(1))
     path = os.path.join(folder, "x.zip")
     with zipfile.ZipFile(path, "w") as archive:

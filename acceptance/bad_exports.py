@@ -1,4 +1,4 @@
-"""Exports that can't be read. Each case makes files in a folder, and tells the words, the status, and what is told behind `convert: `."""
+"""Exports that can't be read. Each case makes files in a folder, and returns the words, the status, and the message after `convert: `."""
 import json
 import os
 import zipfile
@@ -19,7 +19,7 @@ def session(number, *marks, **other):
 
 
 def dominion(folder, *sessions, version="5.10.50.85", files=()):
-    """A folder with an export of these sessions. `files` stands instead of some of them."""
+    """A folder with an export of these sessions. `files` replaces some of its files."""
     made = {
         "ContestManifest.json": {"Version": version, "List": [{"Description": "Mayor", "Id": 5, "VoteFor": 1, "NumOfRanks": 3}]},
         "CandidateManifest.json": {
@@ -580,7 +580,7 @@ PARTS = {"CvrExport.json": None, **{f"CvrExport_{part}.json": {"Version": "5.10"
 
 
 def told(number, over, under, *marks, is_vote=True):
-    """A session whose contest tells its overvotes and undervotes."""
+    """A session whose contest states its overvotes and undervotes."""
     made = session(number, *marks)
     vote = made["Original"]["Cards"][0]["Contests"][0]
     vote |= {"Overvotes": over, "Undervotes": under}

@@ -1,8 +1,7 @@
 #!/usr/bin/env python3
 """Ballot files that are read or refused, each rule with its place, tried on the built program.
 
-acceptance/ballot_files.py PROGRAM writes each file of the tables below and tabulates it. The last line says how many
-came out as they should.
+acceptance/ballot_files.py PROGRAM writes each file of the tables below and tabulates it. The last line says how many came out as they should.
 """
 import os
 import subprocess

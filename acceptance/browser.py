@@ -1,4 +1,4 @@
-"""A browser that is driven over the DevTools protocol, by two pipes: the package chromium-headless-shell."""
+"""A browser that is driven over the DevTools protocol, through two pipes. It is in the package chromium-headless-shell."""
 import json
 import os
 import shutil
@@ -10,7 +10,7 @@ KEYS = {
     "Enter": (13, "\r"), " ": (32, " "), "Tab": (9, ""), "Backspace": (8, ""), "PageUp": (33, ""), "PageDown": (34, ""),
     "ArrowLeft": (37, ""), "ArrowUp": (38, ""), "ArrowRight": (39, ""), "ArrowDown": (40, ""),
 }
-PATIENCE = 10  # seconds until something that is waited for has to be there
+PATIENCE = 10  # the maximum number of seconds to wait for anything
 
 
 def found():
@@ -18,7 +18,7 @@ def found():
 
 
 class Browser:
-    """One browser, whose storage is kept in a folder, with one page open."""
+    """A browser with one page open; it keeps its storage in a folder."""
 
     def __init__(self, folder, downloads):
         to_it, to_end = os.pipe()
@@ -36,18 +36,18 @@ class Browser:
         self.ask("Browser.setDownloadBehavior", is_of_page=False, behavior="allow", downloadPath=downloads)
 
     def further_page(self):
-        """The session of one more page of this browser, in a tab of its own."""
+        """Opens one more page of this browser, in a tab of its own, and returns its session."""
         target = self.ask("Target.createTarget", is_of_page=False, url="about:blank")["targetId"]
         return self.ask("Target.attachToTarget", is_of_page=False, targetId=target, flatten=True)["sessionId"]
 
     def turn_to(self, session):
-        """Goes on with the page of a session."""
+        """Switches to the page of a session."""
         self.session = session
         self.ask("Page.enable")
         self.ask("Page.bringToFront")
 
     def go_back(self):
-        """Presses the button that goes back; whether there was a page to go back to."""
+        """Presses the back button, and returns whether there was a page to go back to."""
         history = self.patiently("Page.getNavigationHistory")
         at = history["currentIndex"] - 1
         if at < 0:
@@ -59,7 +59,7 @@ class Browser:
         return True
 
     def patiently(self, method, **given):
-        """The same as `ask`, also while one page takes the place of another."""
+        """Does what `ask` does, even while one page replaces another."""
         end = time.monotonic() + PATIENCE
         while True:
             try:
@@ -77,7 +77,7 @@ class Browser:
         self.process.wait(PATIENCE)
 
     def ask(self, method, is_of_page=True, **given):
-        """The result of a method of the protocol; what else the browser tells meanwhile is dropped."""
+        """The result of a method of the protocol. Anything else that the browser sends meanwhile is dropped."""
         self.count += 1
         message = {"id": self.count, "method": method, "params": given}
         if is_of_page and self.session:
@@ -100,14 +100,14 @@ class Browser:
         return json.loads(one)
 
     def value(self, script):
-        """What a script comes to, in the page."""
+        """The value of a script, run in the page."""
         result = self.ask("Runtime.evaluate", expression=script, returnByValue=True)
         if "exceptionDetails" in result:
             raise RuntimeError(f"{script}: {result['exceptionDetails']}")
         return result["result"].get("value")
 
     def wait(self, script):
-        """Waits until a script comes to something that is true."""
+        """Waits until the value of a script is true."""
         end = time.monotonic() + PATIENCE
         while time.monotonic() < end:
             if self.value(script):
@@ -116,7 +116,7 @@ class Browser:
         return False
 
     def open(self, path):
-        """Waits for the new page, also where it has the same path as the old one."""
+        """Opens a file, and waits for the new page even if it has the same path as the old one."""
         self.value("window.isOld = true")
         self.ask("Page.navigate", url=f"file://{path}")
         self.wait(f"document.readyState === 'complete' && !window.isOld && location.pathname === {json.dumps(path)}")
@@ -127,7 +127,7 @@ class Browser:
         self.wait("document.readyState === 'complete' && !window.isOld")
 
     def press(self, *keys):
-        """Types keys, each by its name or its letter."""
+        """Types keys, each given by its name or its letter."""
         for key in keys:
             code, text = KEYS[key] if key in KEYS else (ord(key.upper()), key)
             told = {"key": key, "windowsVirtualKeyCode": code}
@@ -135,7 +135,7 @@ class Browser:
             self.ask("Input.dispatchKeyEvent", type="keyUp", **told)
 
     def click(self, selector):
-        """Presses the mouse in the middle of an element."""
+        """Clicks in the middle of an element."""
         self.value(f"document.querySelector({json.dumps(selector)}).scrollIntoView({{block: 'center'}})")
         x, y = self.value(f"(({{x, y, width, height}}) => [x + width / 2, y + height / 2])(document.querySelector({json.dumps(selector)}).getBoundingClientRect())")
         for kind in ("mousePressed", "mouseReleased"):

@@ -1,9 +1,9 @@
 #!/usr/bin/env python3
-"""Files whose author picked ids and names with one digest, and cards and assertions that crowd in a table, by a hash with a known seed.
+"""Files whose author chose ids and names that have one digest, or cards and assertions that crowd in a table, by a hash with a known seed.
 
-acceptance/colliding.py PROGRAM runs commands on such files and on honest ones of the same size. Status and standard error have to
-be the same, and the processor time has to be within twice that of the honest file; of ids of ballots, batches, cards and members within ten
-times. The last line says how many were.
+acceptance/colliding.py PROGRAM runs commands on such files and on honest ones of the same size. The status and standard error must be the same. The
+processor time must be at most twice that of the honest file, or ten times for ids of ballots, batches, cards and members. The last line says how many runs
+passed.
 """
 import json
 import os
@@ -17,24 +17,24 @@ from limits import MOST_BATCH_CARDS, MOST_CONTESTS, MOST_RECORDS
 
 MOST_TIMES = 2
 MOST_TIMES_OF_IDS = 10
-# What is shorter than this counts as this, since the start of a program isn't what is measured.
+# A shorter time counts as this one, since the start of a program isn't what is measured.
 LEAST_SECONDS = 0.05
 BATCHES = 65_536
 CARD_BATCHES = 5
 MEMBERS = 1_000_000
-# Candidates of a contest that nobody asks for, its ballots, and how many candidates each ranks.
+# The candidates of a contest that nobody asks for, its ballots, and the number of candidates that each ballot ranks.
 RIVALS = 300
 LONG_BALLOTS = 25_000
 RANKED = 50
-# Ballots of the last of many contests.
+# The ballots of the last of many contests.
 LATE_BALLOTS = 250_000
 ASSERTIONS = 100_000
-# More than have a table of all sets.
+# More candidates than have a table of all sets.
 CANDIDATES = 25
-# The last bytes of an id of a ballot, which no digest is taken of.
+# The last bytes of a ballot's id; no digest covers them.
 COUNTED_BYTES = 5
 
-# ---- the hash: that of the kit's `FoldHasher`
+# ---- the hash, which is that of the kit's `FoldHasher`
 
 SEED, MULTIPLIER, MASK = 0x243F6A8885A308D3, 0x9E3779B97F4A7C15, 2**64 - 1
 
@@ -49,7 +49,7 @@ def word(data, at):
 
 
 def after_length(state, number):
-    """The state once the length of a list was taken, ahead of its bytes."""
+    """The state after the length of a list is hashed, before its bytes."""
     return folded(state ^ number, MULTIPLIER ^ 16)
 
 
@@ -62,19 +62,19 @@ def after_four(state, number):
 
 
 def group(state, groups):
-    """Where a table of so many groups puts a key first."""
+    """The group in which a table of `groups` groups tries to put a key first."""
     return (state ^ state >> 32) % groups
 
 
-# ---- what is alike to it
+# ---- keys that the hash can't distinguish
 
 LETTERS = b"0123456789ABCDEFGHIJKLMNOPQRSTUVWXYZabcdefghijklmnopqrstuvwxyz"
 
 
 def alike_front():
-    """24 bytes with which 32 bytes have the digest 0, whatever the last eight are.
+    """Returns 24 bytes; any 32 bytes that begin with them have the digest 0, whatever the last eight are.
 
-    The first 16 lead to a state that could be text. It comes next, so that the product after it is 0.
+    The first 16 lead to a state that can be written as text. That state comes next, so that the product after it is 0.
     """
     for number in range(len(LETTERS) ** 4):
         tail = bytes(LETTERS[number // len(LETTERS) ** k % len(LETTERS)] for k in range(4))
@@ -86,13 +86,13 @@ def alike_front():
 
 
 def crowded_cards(most):
-    """Numbers of cards that all begin in a 64th of the groups of a table for them."""
+    """Numbers of cards that all begin in one 64th of the groups of a table for them."""
     groups = 1 << (most // 64 // 9).bit_length()
     return [card for card in range(1, most + 1) if group(after_four(SEED, card), groups) < groups // 64]
 
 
 def crowded_names(front, most):
-    """Names that begin in the same group of a table for them and have one tag there, so that each is compared; keys are hashed a byte at a time."""
+    """Names that all begin in one group of a table for them and have the same tag there, so that each is compared. Keys are hashed a byte at a time."""
     groups = 1 << (most // 9).bit_length()
     start = after_length(SEED, len(front) + 8)
     for byte in front.encode():
@@ -110,9 +110,9 @@ def crowded_names(front, most):
 
 
 def spread_and_crowded_sets():
-    """Sets with the first two candidates, as many that are spread in a table as there are that begin in a 64th of it.
+    """Sets with the first two candidates: some that are spread over a table, and as many that begin in one 64th of it.
 
-    A set comes after the kind of a NEN and its winner, which is the first candidate.
+    A set is hashed after the kind of a NEN and its winner, the first candidate.
     """
     groups = 1 << (ASSERTIONS // 9).bit_length()
     state = after_one(after_one(SEED, 0), 0)
@@ -137,7 +137,7 @@ def write(name, parts):
 
 
 def write_ballots(name, ids):
-    """Ballots of which the first ranks b, and all others a."""
+    """Writes ballots: the first ranks b, and all others rank a."""
     write(name, [HEAD, *(f"1,{ballot},{'a' if number else 'b'}\n" for number, ballot in enumerate(ids))])
 
 
@@ -192,7 +192,7 @@ def ballots(runs):
     write_ballots("colliding", colliding)
     runs.pair("ids of ballots", ["tabulate", "honest"], ["tabulate", "colliding"])
     write_ballots("honest", honest[:-1] + honest[1:2])
-    write_ballots("colliding", colliding[:-1] + colliding[1:2])  # the first alone has the page of them all
+    write_ballots("colliding", colliding[:-1] + colliding[1:2])  # only the first has the page of them all
     runs.pair("ids of ballots, the last repeats the second", ["tabulate", "honest"], ["tabulate", "colliding"])
     write("honest", ["2\nContest,1,2,a,b\nContest,2,2,a,b\n1,x,a\n", *(f"2,{ballot},a\n" for ballot in honest[:-1])])
     write("colliding", ["2\nContest,1,2,a,b\nContest,2,2,a,b\n1,x,a\n", *(f"2,{ballot},a\n" for ballot in colliding[:-1])])
@@ -200,7 +200,7 @@ def ballots(runs):
 
 
 def candidates(runs):
-    """Names of candidates of a contest that nobody asks for, as its ballots rank them."""
+    """The names of candidates of a contest that nobody asks for, as its ballots rank them."""
     front = f"{'candidate':>024}"
     for file, names in (("honest", [f"{front}{number:08}" for number in range(RIVALS)]), ("colliding", crowded_names(front, RIVALS))):
         ranked = (",".join(names[(number * 7919 + rank * 31) % RIVALS] for rank in range(RANKED)) for number in range(LONG_BALLOTS))
@@ -210,7 +210,7 @@ def candidates(runs):
 
 
 def contests(runs):
-    """Ballots of the last of as many contests as a file has."""
+    """The ballots of the last contest in a file with as many contests as a file may have."""
     for file, front in (("honest", f"{'contest':>024}"), ("colliding", alike_front())):
         names = [f"{front}{number:08}" for number in range(MOST_CONTESTS)]
         heads = [f"{MOST_CONTESTS}\n", *(f"Contest,{name},2,a,b\n" for name in names), f"{names[0]},x,a\n"]

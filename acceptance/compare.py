@@ -1,9 +1,9 @@
 #!/usr/bin/env python3
-"""Compares what the built program prints with plain.py, on contests that are made by a fixed generator.
+"""Compares what the built program prints with plain.py, on contests from a fixed generator.
 
-acceptance/compare.py PROGRAM [CONTESTS] searches and tabulates so many contests of 2 to 6 candidates, 400 if no number
-is given, a few of 8 to 12, and some of 21 to 32, of whom few are strong. Then it searches each example, those of the audits too, at one
-worker, and several times at two, four and eight. The last line says how many agreed.
+acceptance/compare.py PROGRAM [CONTESTS] searches and tabulates CONTESTS contests of 2 to 6 candidates (400 by default), a few of 8 to 12, and some of 21 to
+32, few of whom are strong. Then it searches each example, including those of the audits, once with one worker, and several times with two, four and eight.
+The last line says how many contests agreed.
 """
 import glob
 import os
@@ -18,12 +18,12 @@ from draws import Draws
 from limits import MOST_CANDIDATES
 
 TOP = os.path.dirname(os.path.dirname(os.path.abspath(__file__)))
-RUNS = {2: 5, 4: 5, 8: 10}  # so often with so many workers
-FEWEST_MANY = 21  # candidates, of whom few are strong
+RUNS = {2: 5, 4: 5, 8: 10}  # the number of runs for each number of workers
+FEWEST_MANY = 21  # candidates, few of whom are strong
 
 
 def contest_of(draws, n, ballots):
-    """Candidates with small numbers are ranked more often; up to n preferences a ballot, possibly none."""
+    """Rankings of up to n preferences each, possibly none; candidates with small numbers are ranked more often."""
     rankings = []
     for _ in range(ballots):
         ranking = []
@@ -41,8 +41,8 @@ def many_of(draws):
 
 
 def few_strong(draws, n):
-    """Two to four candidates, the first ones, have most votes. Each other one is first on few ballots, three of them on as many, so that not too
-    many tie; most of these pass on to a strong one, some to another weak one before."""
+    """Rankings in which the first two to four candidates have most of the votes. Each other candidate is first on a few ballots; up to three of them are
+    first on the same number, so that not too many tie. Most of these ballots pass to a strong candidate, and some to another weak one before that."""
     strong = 2 + draws.below(3)
 
     def behind():
@@ -89,7 +89,7 @@ def searched(program, path, name, workers):
 
 
 def hangs_on_turns(program, path, name):
-    """Whether more workers, in one of several runs, come to another status or text than one."""
+    """Whether several workers, in any of several runs, give another status or text than one worker does."""
     one = searched(program, path, name, 1)
     others = [workers for workers, runs in RUNS.items() if any(searched(program, path, name, workers) != one for _ in range(runs))]
     if one[0] in (0, 3, 5) and not others:

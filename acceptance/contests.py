@@ -1,12 +1,11 @@
 #!/usr/bin/env python3
 """Compares what the built program says of all contests of a file on one sample with the plain program, and with itself.
 
-acceptance/contests.py PROGRAM [COUNTIES] first goes through counties that were worked out by hand. Then it makes so many others, 500 if no
-number is given: 1 to 12 contests of 2 to 5 candidates, now and then one of 21 to 32, on cards of which each has some of them; some tie, some
-cards are read otherwise or missing, and in half of the counties something is damaged. Status and both texts have to agree with
-plain_contests.py, at any number of workers. Where there is an answer, each contest is given alone to the program: the block has to be the same.
-Of one contest a session is opened and audited, which has to have the same counts and risks. With few nodes a block is the same too, or says
-that the budget is spent, as a search of that contest says it.
+acceptance/contests.py PROGRAM [COUNTIES] first goes through counties that were worked out by hand. Then it makes COUNTIES others (500 by default): 1 to 12
+contests of 2 to 5 candidates, now and then one of 21 to 32, on cards that each have some of the contests. Some contests tie, some cards are read otherwise
+or are missing, and in half of the counties something is damaged. The status and both texts must agree with plain_contests.py, at any number of workers. If
+there is an answer, the program is given each contest by itself, and must print the same block. For one contest a session is opened and audited, which must
+have the same counts and risks. With few nodes, a block must also be the same, or say that the budget is spent in the words of a search of that contest.
 """
 import collections
 import csv
@@ -42,7 +41,7 @@ TIE = lines("contest 8", "tie", "round 1", "tied 1,2", "tally 0", "signed off no
 
 
 def row(runs, ballots, seen, wanted, *words, manifest=audits.MANIFEST):
-    """The answer of these files, with five draws of seed 2024, at each number of workers."""
+    """The answer for these files, with five draws of seed 2024, at each number of workers."""
     for name, text in (("ballots.raire", ballots), ("manifest.csv", manifest), ("seen.csv", seen)):
         write(name, text)
     for workers in WORKERS:
@@ -71,7 +70,7 @@ THREE_CARDS = "batch,cards\nb,3\n"
 
 
 def refusals(runs):
-    """Each rule of the seen file with its place, the first of two in one record, and the order of files."""
+    """Each rule of the seen file with its place, the first of two in one record, and the order in which files are judged."""
     for seen, rule in [
         ("b_1,9,missing\n" + SEEN, "V6 at 1"), (SEEN + "b_1,9,ballot\n", "V6 at 3"), ("b_1,ballot\n", "V1 at 1"), ("b_1\n", "V1 at 1"), ("b_1,7\n", "V1 at 1"),
         ("b_1,7,seen\n", "V1 at 1"), ("b_1,7,missing,1\n", "V1 at 1"), ("b_1,7,missing,,1\n", "V1 at 1"), ("7,b_1,ballot,1\n", "V2 at 1"), ("b_2,7,ballot,1\n", "V2 at 1"),
@@ -102,7 +101,7 @@ def refusals(runs):
 
 
 def most_contests(runs):
-    """As many contests as there may be, each with a ballot on the one card; the last is tied."""
+    """As many contests as there may be, each but the last with a ballot on the one card; the last is tied."""
     heads = [f"Contest,{k},2,1,2" for k in range(MOST_CONTESTS)]
     cast = [f"{k},b_1,{1 + k % 2}" for k in range(MOST_CONTESTS - 1)]
     seen = lines(*(f"b_1,{k},ballot,{1 + k % 2}" for k in range(MOST_CONTESTS - 1)))
@@ -121,7 +120,7 @@ def words(runs):
         runs.row(line, (1, "", "raire: bad words\n"))
 
 
-# ---- counties that are made
+# ---- counties that are generated
 
 NAMES = ["7", "8", "210", "Mayor", "City council 3", "signed off yes", "all no", "contest 7", "a=1 b=2", "<i>9</i>", "Sheriff", "W" * 64, "tie", "0007"]
 CANDIDATES = ["15", "16", "Lee Ann", "Zoe", "no", "c d", "e=1 f=2"]
@@ -167,7 +166,7 @@ class County:
         return {free.pop(self.draws.below(len(free))): ranking for ranking in rankings}
 
     def ballots_text(self):
-        """The records of a card stand together, or those of a contest do."""
+        """The records of one card, or those of one contest, are next to each other."""
         of_contests = [[",".join([each.name, card, *each.named(ranking)]) for card, ranking in self.cast[each.name].items()] for each in self.contests]
         rows = [each for rows in of_contests for each in rows]
         if self.draws.below(2):
@@ -175,7 +174,8 @@ class County:
         return lines(len(self.contests), *(",".join(["Contest", each.name, str(len(each.ids)), *each.ids]) for each in self.contests), *rows)
 
     def seen_text(self):
-        """Each card in each contest as it is recorded, but in a county that isn't clean one in eight otherwise; now and then one contest is left out."""
+        """Each card is seen in each contest as it is recorded, but in a county that isn't clean one in eight may differ; now and then one contest is
+        omitted."""
         left_out = one_of(self.draws, self.contests) if self.contests[1:] and self.draws.below(6) == 0 else None
         return lines(*(self.seen_of(card, each) for card in self.cards for each in self.contests if each is not left_out))
 
@@ -206,7 +206,7 @@ def damage_seen(draws):
 
 
 def damage_ballots(draws):
-    """A ballot of no card, in one contest or in two; one that stands twice; a head with one candidate."""
+    """A ballot of no card, in one contest or two; a ballot that is there twice; a head with one candidate."""
     rows = rows_of("ballots.raire")
     first = int(rows[0]) + 1
     for _ in range(1 + draws.below(2)):
@@ -287,7 +287,7 @@ def put(name, rows):
 
 
 def put_alone(contest):
-    """The ballot file and the seen file without the records of other contests; and the seen cards without the contest's id."""
+    """Writes the ballot file and the seen file without the records of other contests, and the seen cards without the contest's id."""
     count, *rows = records_in("ballots.raire")
     heads, cast = rows[:int(count[0])], rows[int(count[0]):]
     put("alone.raire", [["1"], *(row for row in heads if row[1] == contest.name), *(row for row in cast if row[0] == contest.name)])
@@ -297,7 +297,7 @@ def put_alone(contest):
 
 
 def alone(runs, contest, block, options):
-    """The contest alone has the same block."""
+    """The contest by itself has the same block."""
     put_alone(contest)
     words = ["contests", "alone.raire", "manifest.csv", "alone.csv", *options]
     is_signed_off = block.endswith("signed off yes\n")
@@ -308,7 +308,7 @@ def alone(runs, contest, block, options):
 
 
 def by_session(runs, contest, block, options):
-    """A session of the contest, audited by a round of as many draws, has the claims' margins, counts and risks, and is signed off or not."""
+    """A session of the contest, audited in a round with the same number of draws, has the claims' margins, counts and risks, and the same sign-off."""
     put_alone(contest)
     seed, draws, limits = options[:2], options[2:4], options[4:]
     status, text, _ = ran(runs, "search", "alone.raire")

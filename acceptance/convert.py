@@ -1,10 +1,9 @@
 #!/usr/bin/python3
-"""Tries ./raire convert: exports made by hand and by chance, in each form, against a plain count of them; exports that are bad or damaged.
+"""Tries ./raire convert on exports made by hand and random ones, in each form, against a plain count of them, and on bad or damaged exports.
 
-acceptance/convert.py PROGRAM [COUNT] takes the exports of examples/exports, and COUNT exports of each form that are drawn by chance
-(acceptance/made_exports.py). Each is converted, the ballot file is read back, and who is ranked on each card is compared with what a plain
-count of the export gives (acceptance/plain_export.py); what PROGRAM tabulates is compared with the tabulation of that count. The last line
-says how many came out as they should.
+acceptance/convert.py PROGRAM [COUNT] takes the exports of examples/exports, and COUNT random exports of each form (acceptance/made_exports.py). It converts
+each one, reads the ballot file back, and compares who is ranked on each card with a plain count of the export (acceptance/plain_export.py). It compares
+what PROGRAM tabulates with the tabulation of that count. The last line says how many came out as they should.
 """
 import csv
 import io
@@ -23,7 +22,7 @@ sys.path.insert(0, os.path.join(TOP, "tools", "office"))
 
 import places  # noqa: E402, F401
 try:
-    import convert  # that of office/
+    import convert  # the one in office/
 except ImportError as missing:
     print(f"acceptance/convert.py: NOT TRIED: {missing}; apt-get install python3-ijson python3-openpyxl")
     sys.exit(1)
@@ -40,7 +39,7 @@ TAKES_MARKS = ("dominion", "nist")
 
 
 def called(words):
-    """Status, output and error output of a call, made in this process."""
+    """The status, output and error output of a call, made in this process."""
     out, err = io.TextIOWrapper(io.BytesIO(), newline=""), io.StringIO()
     was = sys.stdout, sys.stderr
     sys.stdout, sys.stderr = out, err
@@ -72,7 +71,7 @@ class Conversion:
         self.status, self.data, self.err = called([form, *paths, *words, "--names", self.names_path, "--account", self.account_path])
 
     def compare(self, program):
-        """What isn't as the plain count has it, or None."""
+        """What differs from the plain count, or None."""
         if self.status:
             return None if "no candidates" in self.err and self.ranks_nobody() else f"status {self.status}: {self.err}"
         with open(self.ballots, "wb") as file:
@@ -97,7 +96,8 @@ class Conversion:
         return not any(self.candidates_of(contest) for contest in self.counted().values())
 
     def is_asked(self, key):
-        """The contests of made exports that aren't ranked are left out; of those by hand, all that stand in the ballot file are looked at."""
+        """Generated exports also have contests that aren't ranked, which are omitted; of exports made by hand, all contests in the ballot file are
+        compared."""
         return key not in ("900", "_other") and (not self.is_by_hand or "--title" in self.words or f"\nContest,{key},".encode() in self.data)
 
     def compare_contest(self, program, name, ids, key, counted):
@@ -123,7 +123,7 @@ class Conversion:
         return None if (ran.returncode, ran.stdout) == told else f"tabulated {ran.stdout} {ran.stderr}, and the plain count gives {told}"
 
     def ids_of(self, name, counted):
-        """The ids of the candidates of the count, by the names that stand in names.csv, or by their own keys."""
+        """The ids of the candidates of the count, by their names in names.csv, or by their own keys."""
         rows = [row for row in rows_of(self.names_path) if row["contest"] == name and row["id"]]
         ids, found = {row["name"]: row["id"] for row in rows}, {}
         for key, called in counted.names.items():
@@ -135,7 +135,7 @@ class Conversion:
 
 
 def by_hand(program):
-    """The exports of examples/exports: `words`, and what is wanted in `out`, `names` and `account`."""
+    """The exports of examples/exports: `words`, and what is expected in `out`, `names` and `account`."""
     for name in sorted(os.listdir(EXPORTS)):
         folder = os.path.join(EXPORTS, name)
         with open(os.path.join(folder, "words")) as file:
@@ -186,7 +186,7 @@ def by_chance_unranked(program, count):
 
 
 def see_unranked(status, data, err, counted, made, write_ins):
-    """What isn't as the plain count has it, or None."""
+    """What differs from the plain count, or None."""
     if made == "plurality":
         counted = {key: each for key, each in counted.items() if each[0] == 1}
     wanted, ties = {}, 0
@@ -215,7 +215,7 @@ def see_unranked(status, data, err, counted, made, write_ins):
 
 
 def bad():
-    """Each is refused with its status, its file and its place, and neither an output nor a file is written."""
+    """Each is refused with its status, its file and its place, and writes neither an output nor a file."""
     for name, make in bad_exports.CASES.items():
         with tempfile.TemporaryDirectory() as folder:
             os.mkdir(os.path.join(folder, "in"))
@@ -230,7 +230,7 @@ def bad():
 
 
 def too_large():
-    """More records than a file may have are told as many contests, or as one that is too large by itself."""
+    """If there are more records than a file may have, the message says whether several contests have them, or one that is too large by itself."""
     book = convert.Book([], None, None)
     for of_contest, told in (
         (900_000, "is record 1000001, and a .raire file has at most 1000000; convert fewer contests at once: --contest"),
@@ -251,7 +251,7 @@ def nodes(value):
 
 
 def change(value, chance):
-    """Something somewhere is another value, gone, or there twice."""
+    """Changes or removes something somewhere, or puts it there twice."""
     node = chance.choice([each for each in nodes(value) if each])
     at = chance.choice(list(node)) if isinstance(node, dict) else chance.randrange(len(node))
     kind = chance.randrange(3)
@@ -264,7 +264,7 @@ def change(value, chance):
 
 
 def damage(path, chance):
-    """A file is cut off, or some of it is another."""
+    """Cuts a file off, or changes some of it."""
     data = bytearray(read(path))
     for _ in range(chance.randint(1, 3)):
         at = chance.randrange(len(data))
@@ -274,7 +274,7 @@ def damage(path, chance):
 
 
 def damaged(count):
-    """Whatever stands in an export, a call ends with the text or with a line that names the file."""
+    """Whatever is in an export, a call ends with the text or with a line that names the file."""
     for maker, number in itertools.product(made_exports.MAKERS, range(count)):
         chance, form = random.Random(f"damaged {maker} {number}"), maker.partition(" ")[0]
         with tempfile.TemporaryDirectory() as folder:

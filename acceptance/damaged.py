@@ -1,9 +1,8 @@
 #!/usr/bin/env python3
-"""Damaged files: cuts, flipped bits, repeats, swaps and words put in, of every kind of file, given to the built program.
+"""Damaged files of every kind, with cuts, flipped bits, repeats, swaps and inserted words, given to the built program.
 
-acceptance/damaged.py PROGRAM [FILES] gives it each beginning of a file of each kind, and so many damaged files, 20,000 if no
-number is given. Each run has to end with the status and both texts that plain_audit.py gives, which has no answer but those of
-docs/formats.md. The last line says how many did.
+acceptance/damaged.py PROGRAM [FILES] gives it each beginning of a file of each kind, and FILES damaged files (20,000 by default). Each run must end with
+the status and both texts of plain_audit.py, whose only answers are those of docs/formats.md. The last line says how many did.
 """
 import collections
 import json
@@ -20,7 +19,7 @@ from draws import Draws
 
 TOP = os.path.dirname(os.path.dirname(os.path.abspath(__file__)))
 
-# Of each kind of file the commands that read it, with other files whole.
+# For each kind of file, the commands that read it, with the other files whole.
 COMMANDS = {
     "ballots.raire": [
         ["tabulate", "ballots.raire"], ["open", "ballots.raire", "whole.csv", "whole.json", "--seed=1"],
@@ -89,14 +88,14 @@ def damaged(draws, data, words):
 
 
 def claims_of(text):
-    """What an assertion file claims, without a word on margins."""
+    """What an assertion file claims, without any margins."""
     found = json.loads(text)
     claims = [{name: value for name, value in claim.items() if name != "margin"} for claim in found["assertions"]]
     return json.dumps({"assertions": claims, **{name: found[name] for name in ("candidates", "contest", "winner")}})
 
 
 def whole_files(draws):
-    """Audits with a session of one round each, and their files once more under names that nothing damages."""
+    """Writes audits with a session of one round each, and a copy of their files under names that nothing damages."""
     while True:
         audits.Made(draws)
         status, text, _ = plain_audit.run(["search", "ballots.raire"])
@@ -125,7 +124,7 @@ def whole_files(draws):
 
 
 def tried(job):
-    """Of so many files, made from one number: the statuses that came, and what came out otherwise."""
+    """Tries a number of files, made from one number, and returns the statuses that came and what differed."""
     program, number, files, kinds = job
     draws, statuses, wrong = Draws(number), collections.Counter(), []
     with tempfile.TemporaryDirectory() as folder:
@@ -149,7 +148,7 @@ def tried(job):
     return statuses, wrong
 
 
-# What a search says of so many first bytes of examples/row1.raire, worked out by hand: rule and place, or the tied candidates.
+# What a search says of the first 0, 1, 2, .. bytes of examples/row1.raire, worked out by hand: a rule and its place, or the tied candidates.
 BEGINNINGS = ["B1 at 1"] + ["B2 at 2"] * 11 + ["B3 at 2"] * 6 + ["B4 at 2"] + ["1,2,3"] * 2 + ["B6 at 3", "B4 at 3", "1,2,3"]
 
 

@@ -1,11 +1,11 @@
 #!/usr/bin/env python3
 """Tries ./raire desk without a browser: README's audits, what is left when it is killed, and what an observer finds.
 
-acceptance/desk.py PROGRAM [KILLS] goes through the audits of the town, the village, the library, the county and the harbor at a desk of
-its own each. Their files have to be the examples', and those that the commands make. `sh commands.txt` in an empty folder has to make them
-again, and `./raire desk --read` has to find each file that was changed. The desk of another town is killed at so many instants, 20 if no
-number is given. A deed is killed before each of its calls to the system. A full disk and a folder that can't be written are told.
-The last line says how many things were as they should be. PROGRAM is the one of ./raire.
+acceptance/desk.py PROGRAM [KILLS] goes through the audits of the town, the village, the library, the county and the harbor, each at its own desk. Their
+files must be the examples', and those that the commands make. `sh commands.txt` in an empty folder must make them again, and `./raire desk --read` must
+find each file that was changed. The desk of another audit of the town is killed at KILLS instants (20 by default). A deed is killed before each of its
+calls to the system. A full disk and a folder that can't be written must be reported. The last line says how many checks passed. PROGRAM is the one of
+./raire.
 """
 import collections
 import contextlib
@@ -45,8 +45,8 @@ import steps  # noqa: E402
 
 PATH = {**os.environ, "PATH": f"{TOP}:{os.environ['PATH']}"}
 KILLS = 20
-LONGEST_LEG = 2.5  # seconds until a kill, if it comes after a while
-MOST_WRITES, LOOK = 60, 0.0002  # how often files grow until a kill, and the seconds between two looks at them
+LONGEST_LEG = 2.5  # seconds until a kill that comes after a while
+MOST_WRITES, LOOK = 60, 0.0002  # at most how often files grow before a kill, and the seconds between two looks at them
 
 
 class Tried:
@@ -67,7 +67,7 @@ def files_in(place):
 # ---- README's audits
 
 def audit(name, place, port):
-    """Goes through an audit to its end; what was seen, or what went wrong."""
+    """Goes through an audit to its end, and returns its bundle, or what went wrong."""
     try:
         with Desk(place, port) as desk:
             visitor = Visitor(desk)
@@ -78,7 +78,7 @@ def audit(name, place, port):
 
 
 def audits(tried, place):
-    """All audits side by side, each at a desk of its own."""
+    """Goes through all audits at the same time, each at its own desk."""
     ports = free_ports(len(WALKS))
     with Pool(len(WALKS)) as pool:
         ran = pool.starmap(audit, [(name, os.path.join(place, name), port) for name, port in zip(WALKS, ports)])
@@ -95,7 +95,7 @@ def audits(tried, place):
 
 
 def see_harbor(tried, there):
-    """A poll, whose cards are read as they are recorded."""
+    """A poll whose cards are read as they are recorded."""
     for file in ("ballots.raire", "manifest.csv", "assertions.json"):
         tried.see(f"{file} of the harbor is the example's", there.get(file) == read(os.path.join(EXAMPLES, "harbor", file)))
 
@@ -113,13 +113,13 @@ def see_script(tried, made, empty):
     tried.see(f"sh commands.txt of {os.path.basename(made)} makes its files", ran.returncode == 0 and files_in(empty) == wanted, ran.stderr[-500:])
 
 
-# ---- an export, and steps that are taken back
+# ---- an export, and steps that are undone
 
 RULES = {"as": "ranked", "overvotes": "end", "skips": "pass", "repeats": "pass", "write-ins": "merge", "marks": "counted", "counts": "compare"}
 
 
 def exported(tried, place):
-    """The town from a vendor's export: its account is confirmed line by line; then steps are taken back, and plans are looked at."""
+    """The town from a vendor's export: its account is confirmed line by line; then steps are undone, and plans are tried out."""
     path, [port] = os.path.join(place, "exported"), free_ports(1)
     with Desk(path, port) as desk:
         visitor, sheet = Visitor(desk), read(os.path.join(EXAMPLES, "office", "export.csv"))
@@ -165,7 +165,7 @@ def seed_refused(visitor):
 
 
 def named(tried, place):
-    """Candidates whose ids are numbers are called by their names, as the export has them."""
+    """Candidates whose ids are numbers are called by their names in the export."""
     path, [port] = os.path.join(place, "named"), free_ports(1)
     packed = export_of(os.path.join(EXAMPLES, "exports", "dominion_cards", "export"))
     with Desk(path, port) as desk:
@@ -206,7 +206,7 @@ def forms_of_exports(tried, place):
 
 
 def export_of(path):
-    """A file as it is uploaded; a folder is packed."""
+    """A file as it is uploaded; a folder is put in a zip."""
     if os.path.isfile(path):
         return read(path)
     packed = io.BytesIO()
@@ -218,7 +218,7 @@ def export_of(path):
 
 
 def sheet_of_reader_b(tried, visitor, walk):
-    """Reader B gives a sheet that was filled in, once without a mistake."""
+    """Reader B gives a sheet that was filled in: first with mistakes, then without."""
     visitor.go("/read/1/B")
     visitor.post("/read/1/B/begin", {"person": "JL"})
     rows = read(os.path.join(visitor.folder, "sheet1.csv"), "r").splitlines()
@@ -251,7 +251,7 @@ def no_new_card(tried, place):
 
 
 def county_by_files(tried, place):
-    """The county, whose readers give seen files of all its contests; its terms name the contests, those left out, and when an audit ends."""
+    """The county, whose readers give seen files of all its contests. Its terms name the contests, those that are omitted, and when an audit ends."""
     path, [port] = os.path.join(place, "county_by_files"), free_ports(1)
     walk = WALKS["county"]()
     with Desk(path, port) as desk:
@@ -289,7 +289,7 @@ def county_by_files(tried, place):
 
 
 def in_order(seen, path):
-    """The records of a seen file, card by card as they are fetched."""
+    """The records of a seen file, card by card in the order of fetching."""
     cards = [line.split(",")[2] for line in read(os.path.join(path, "cards1.csv"), "r").splitlines()[1:]]
     return sorted(seen, key=lambda line: cards.index(line.split(",")[0]))
 
@@ -334,7 +334,7 @@ def bundle_of(place, data):
 
 
 def observers(tried, place, data):
-    """A bundle is found to be the same, and each of its files to be changed where a byte of it is."""
+    """A bundle is found to be the same, and each of its files is found to be changed if a byte of it is."""
     whole = bundle_of(place, data)
     status, said, err = looked_at(whole)
     tried.see("a bundle is the same when it is run again", status == 0 and set(said.values()) == {"the same"}, (said, err))
@@ -356,7 +356,7 @@ def observers(tried, place, data):
 
 
 def no_desks(tried):
-    """A folder that isn't one of a desk is told, and what checks its files."""
+    """A folder that isn't a desk's is reported, along with what checks its files."""
     town = os.path.join(TOP, "examples", "town")
     for path, why in ((town, "isn't the folder of a desk: it has no commands.txt. What to do: the commands in docs/observers.md check its files"),
                       (town + "s", "no such file")):
@@ -365,7 +365,7 @@ def no_desks(tried):
 
 
 def damaged_bundles(tried, place, data):
-    """A bundle that is damaged anywhere is told in a line that says so, with status 7; nothing of it is run."""
+    """If a bundle is damaged anywhere, a line says so, with status 7, and nothing of it is run."""
     path = os.path.join(place, "damaged.tar.gz")
     header, trailer = range(10), range(len(data) - 8, len(data))
     flips = {f"bit {bit} of byte {at} changed": flipped(data, at, bit) for bit, at in ((0, min(5_000, len(data) // 2)), (0, 4), (3, len(data) - 1))}
@@ -408,7 +408,7 @@ def is_unusable(path):
 
 
 def changed(place, whole, name):
-    """What isn't found where one byte of this file is another one."""
+    """What isn't found when one byte of this file is changed."""
     copy = os.path.join(place, f"changed_{name}")
     shutil.copytree(whole, copy)
     data = bytearray(read(os.path.join(copy, name)))
@@ -424,7 +424,7 @@ def changed(place, whole, name):
 
 
 def hostile_records(tried, place):
-    """A record that has a command of somebody else's isn't run."""
+    """A record with somebody else's command isn't run."""
     path = os.path.join(place, "hostile")
     os.mkdir(path)
     for number, line in enumerate((
@@ -444,7 +444,7 @@ def hostile_records(tried, place):
 # ---- killed at any instant
 
 class Killer(threading.Thread):
-    """Kills a desk with its commands at some instant: after a while, or as soon as files of its folder have grown a number of times."""
+    """Kills a desk and its commands at some instant: after a while, or as soon as files of its folder have grown a number of times."""
 
     def __init__(self, desk, chance):
         super().__init__(daemon=True)
@@ -470,7 +470,7 @@ class Killer(threading.Thread):
 
 
 def sizes_in(path):
-    """The size of each file of a desk's folder, also of those that it is about to make."""
+    """The size of each file of a desk's folder, including those that it is about to make."""
     found = {}
     for top in (path, os.path.join(path, folder.SCRATCH)):
         with contextlib.suppress(OSError):
@@ -494,7 +494,7 @@ def killed(tried, place, kills, whole):
 
 
 def killed_audit(tried, path, port, chance, kills, whole, counts):
-    """One audit of the town that is killed up to this many times, and how often it was."""
+    """Kills one audit of the town up to this many times, and returns how often it was killed."""
     walk, done = WALKS["town"](), 0
     while True:
         with Desk(path, port) as desk:
@@ -521,7 +521,7 @@ def killed_audit(tried, path, port, chance, kills, whole, counts):
 
 
 def see_whole(tried, path, whole):
-    """Each file that a killed desk leaves, besides drafts and scratch, is one of the whole audit, or lies ready for its place."""
+    """Each file that a killed desk leaves, besides drafts and scratch, is one of the whole audit, or is ready to be moved into place."""
     wanted = files_in(whole)
     for name, data in files_in(path).items():
         is_known = name.endswith((folder.DRAFT_END, folder.NEW_END)) or name in (record.NAME, "seen.csv") or wanted.get(name) == data
@@ -555,7 +555,7 @@ def at_each_call(tried, place):
 
 
 def die_at(number, path):
-    """Does two deeds, takes one back, does it again and then anew, and dies before the call of this number."""
+    """Does two deeds, undoes one, does it again and then in another way, and dies before the call of this number."""
     left = [number]
 
     def counted(call):
@@ -594,7 +594,7 @@ def do(place, base, step, files):
 
 
 def changed_by_hand(tried, place):
-    """A desk doesn't go on with a folder of which a file was changed, or its record."""
+    """A desk doesn't go on with a folder if a file in it, or its record, was changed."""
     path, [port] = os.path.join(place, "by_hand"), free_ports(1)
     with Desk(path, port) as desk:
         go_through(Visitor(desk), WALKS["village"](), until="cards")
@@ -614,7 +614,7 @@ STRANGE = ["<script>alert(1)</script>", "$(id) `id` '; #", "--x=\\\\n & %41 +"] 
 
 
 def strange_ids(tried, place):
-    """Ids that are scripts, words of a shell or of an address are what they are, in all contests of a file."""
+    """Ids that look like scripts, shell words or parts of an address mean only themselves, in all contests of a file."""
     path, [port] = os.path.join(place, "strange"), free_ports(1)
     people = [name.replace("x", "y") for name in STRANGE]
     cards = [f"{batch}_{number}" for batch in STRANGE for number in range(1, 6)]
@@ -638,7 +638,7 @@ def strange_ids(tried, place):
 
 
 def numbers(tried):
-    """Numbers with commas at odd places are refused and not read as other ones."""
+    """Numbers with misplaced commas are refused, and aren't read as other numbers."""
     for text, wanted in (
         ("480", 480), ("4,805", 4_805), (" 1,234,567 ", 1_234_567), ("480,5", None), ("48,05", None), ("4,8,05", None), (",480", None), ("480,", None), ("1,2345", None),
         ("0480", 480), ("4 805", None), ("4.805", None), ("", None), ("2,000,000,000", None), ("1,000,000,000", 1_000_000_000),
@@ -653,7 +653,7 @@ def numbers(tried):
 
 
 def judged(judge, text):
-    """What a form's text is taken for, or None and why it is refused."""
+    """The value that a form's text is read as, or None and why it is refused."""
     try:
         return judge(forms.Form({"x": text}, {})), ""
     except forms.Wrong as wrong:
@@ -661,7 +661,7 @@ def judged(judge, text):
 
 
 def begun_in_vain(tried, place):
-    """A desk whose port is taken leaves no folder that it made, and one that was there as it was."""
+    """A desk whose port is taken leaves no folder that it made, and leaves an existing folder as it was."""
     port = socket.socket()
     with port:
         port.bind((HOST, 0))
@@ -675,7 +675,8 @@ def begun_in_vain(tried, place):
 
 
 def full_counts(tried, place):
-    """A count of another contest is refused at its step; one of the contest says which cards have no ballot. Draws are looked at before they are made."""
+    """A count of another contest is refused at its step; for one of the contest, the page says which cards have no ballot. Draws can be looked at before
+    they are made."""
     path, [port] = os.path.join(place, "counts"), free_ports(1)
     walk = WALKS["village"]()
     with Desk(path, port) as desk:
@@ -735,7 +736,7 @@ def full_counts(tried, place):
 
 
 def helps(tried):
-    """Its page, and words that are none."""
+    """The help page, and words that are wrong."""
     wanted = read(os.path.join(TOP, "docs", "help", "desk.txt"), "r")
     for words in (["--help"], ["-h"], ["help"]):
         ran = subprocess.run([RAIRE, "desk", *words], capture_output=True, text=True)
@@ -746,7 +747,7 @@ def helps(tried):
 
 
 def of_plurality(tried, place):
-    """A plurality contest whose first preferences tie is told at its boxes; in a full count a runoff elects nobody."""
+    """If first preferences of a plurality contest tie, the page says so at the step with its boxes; a full count of it elects nobody by a runoff."""
     path, [port] = os.path.join(place, "plurality"), free_ports(1)
     with Desk(path, port) as desk:
         visitor = Visitor(desk)
@@ -790,7 +791,7 @@ def of_plurality(tried, place):
 
 
 def polled_each(tried, place):
-    """A poll that looks after each draw, by the gamma that fits each margin: the terms say so, and the round has the draw that confirms each assertion."""
+    """A poll that looks after each draw, with the gamma that fits each margin: the terms say so, and the round has the draw that confirms each assertion."""
     path, [port] = os.path.join(place, "polled_each"), free_ports(1)
     walk = Walk("harbor", "poll", WALKS["harbor"]().seed, (40, 100), 142, gamma="best", seen=polled("harbor") + "H3_42,ballot\n", plan={"looks": "each"})
     with Desk(path, port) as desk:

@@ -1,10 +1,10 @@
 #!/usr/bin/env python3
-"""Asks a desk what nobody should ask it, and does at once in two tabs what can be done once.
+"""Asks a desk what nobody should ask it, and uses two tabs to do at once what can only be done once.
 
-acceptance/desk_hostile.py PROGRAM sends requests with foreign hosts and origins, without key, cookie or token, with names of files that aren't
-the desk's, with bodies that are too long or too slow, scripts in every field, and thousands of connections. Each has to have a plain answer;
-the folder and what lies beside it have to be as before, and no command may have been run. Then it uses old pages and two tabs, fills the disk and
-takes the permission to write away. The last line says how many things were as they should be. PROGRAM is the one of ./raire.
+acceptance/desk_hostile.py PROGRAM sends requests with foreign hosts and origins, without the key, cookie or token, with names of files that aren't the
+desk's, with bodies that are too long or too slow, with scripts in every field, and over thousands of connections. Each request must get a plain answer. The
+folder and what is next to it must be as before, and no command may have been run. Then it uses old pages and two tabs, fills the disk and removes the
+permission to write. The last line says how many checks passed. PROGRAM is the one of ./raire.
 """
 import hashlib
 import os
@@ -49,7 +49,7 @@ def state_of(place):
 
 
 def commands_run(desk):
-    """A count that grows with each command that a desk has run: the faults of the pages of memory of its children."""
+    """A count that grows with each command that a desk has run: the page faults of its children."""
     return read(f"/proc/{desk.process.pid}/stat", "r").rpartition(")")[2].split()[8]
 
 
@@ -59,7 +59,7 @@ def state_version(place):
 
 
 class Stranger:
-    """Sends a request, and sees that it gets one of the statuses that it should get, in plain words, and changes nothing."""
+    """Sends requests, and checks that each gets one of the expected statuses, in plain words, and changes nothing."""
 
     def __init__(self, tried, visitor, place):
         self.tried, self.visitor, self.place, self.before = tried, visitor, place, state_of(place)
@@ -101,7 +101,7 @@ def strangers(stranger, port):
 
 
 def forms(stranger, visitor):
-    """Forms without the token, and fields that are none."""
+    """Forms without the token, and with fields that don't exist."""
     page = visitor.go("/step/records")
     token, version = page.hidden("token"), page.hidden("version")
     for step in STEPS:
@@ -118,7 +118,7 @@ def forms(stranger, visitor):
 
 
 def bodies(stranger, visitor):
-    """Bodies over the limits, and bodies that are none."""
+    """Bodies over the limits, and malformed bodies."""
     page = visitor.go("/step/records")
     token, version = page.hidden("token"), page.hidden("version")
     long = b"x" * 3_000_000
@@ -138,7 +138,7 @@ def bodies(stranger, visitor):
 
 
 def texts(stranger, visitor, tried):
-    """Scripts in what is typed in, and files that are none, at the steps that can be done."""
+    """Scripts in what is typed, and malformed files, at the steps that can be done."""
     kind = "multipart/form-data; boundary=a-line-that-no-file-has"
     page = visitor.go("/step/records")
     known = [("token", page.hidden("token")), ("version", page.hidden("version"))]
@@ -213,10 +213,10 @@ def hostile(tried, place):
         tried.see("the folder is empty", sorted(os.listdir(path)) == ["commands.txt"], os.listdir(path))
 
 
-# ---- two tabs, and the button that goes back
+# ---- two tabs, and the back button
 
 def tabs(tried, place):
-    """Two tabs of one browser, at each step of the village: what the second one sends is old, and is refused; the files are those of one tab."""
+    """Two tabs of one browser, at each step of the village: what the second one sends is old and is refused; the files are those of one tab."""
     [port] = free_ports(1)
     walk, path = WALKS["village"](), os.path.join(place, "tabs")
     with Desk(path, port) as desk:
@@ -241,7 +241,7 @@ def tabs(tried, place):
 
 
 def read_in_two_tabs(tried, first, second, walk):
-    """A card that both tabs show: the second reading of it is refused, and the first one stays."""
+    """A card that both tabs show: its second reading is refused, and the first one stays."""
     first.go("/read/1/A")
     first.post("/read/1/A/begin", {"person": "MK"})
     page, other = first.go("/read/1/A"), second.go("/read/1/A")
@@ -257,7 +257,7 @@ def read_in_two_tabs(tried, first, second, walk):
 # ---- disk and permission
 
 def full_disk(tried, place):
-    """A disk of 120 KB is full within the town's audit. That is told; once there is room the audit goes on, and ends with README's bytes."""
+    """A disk of 120 KB that fills up during the town's audit. The desk says so; once there is room the audit continues, and ends with README's bytes."""
     [port] = free_ports(1)
     path, walk = os.path.join(place, "small"), WALKS["town"]()
     os.mkdir(path)
@@ -285,7 +285,7 @@ def full_disk(tried, place):
 
 
 def without_permission(tried, place):
-    """A folder that nobody may write: told at the start, and told at a step where the permission goes later."""
+    """A folder that nobody may write: reported at the start, or at a step if the permission is removed later."""
     [port] = free_ports(1)
     path = os.path.join(place, "closed")
     os.mkdir(path)
@@ -347,7 +347,7 @@ def stopped(tried, place):
 
 
 def long_search():
-    """A contest of 26 candidates who are nearly equal, which is searched for minutes."""
+    """A contest of 26 nearly equal candidates, whose search takes minutes."""
     chance, names = random.Random(7), [f"c{number}" for number in range(26)]
     lines = [f"x,b_{ballot},{','.join(chance.sample(names, len(names)))}" for ballot in range(1, 2_001)]
     return "\n".join(["1", f"Contest,x,26,{','.join(names)}", *lines, ""]).encode()

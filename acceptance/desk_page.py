@@ -1,11 +1,10 @@
 #!/usr/bin/env python3
 """Goes through audits at ./raire desk in a browser, and looks at its pages.
 
-acceptance/desk_page.py PROGRAM [FOLDER] does the town and the county by clicks, the town once more by keyboard alone, the village with scripts switched off,
-and the village once more in two tabs at once, with the button that goes back: the files have to be those of README's commands. Every page is laid out at
-390, 1280 and 1920 pixels, dark and as in print (look.js): nothing may overlap or be
-cut, and contrast, names and what a keyboard reaches have to hold. With a folder as second word the pictures are left there. The last line says how
-many things were as they should be. PROGRAM is the one of ./raire.
+acceptance/desk_page.py PROGRAM [FOLDER] does the town and the county by clicks, the town again by keyboard only, the village with scripts switched off, and
+the village again in two tabs at once, with the back button. The files must be those of README's commands. Every page is laid out at 390, 1280 and 1920
+pixels, dark and as in print (look.js): nothing may overlap or be cut off, and contrast, names and what a keyboard reaches must be right. If there is a
+FOLDER, the pictures are kept in it. The last line says how many checks passed. PROGRAM is the one of ./raire.
 """
 import base64
 import json
@@ -41,7 +40,7 @@ class Tried:
 
 
 class Clerk:
-    """Somebody at a browser. Each way to get on waits until the next page is there."""
+    """A person at a browser. Each method that leads to another page waits until that page is there."""
 
     def __init__(self, opened, desk, tried, name, keep=None):
         self.opened, self.tried, self.name, self.keep, self.looked = opened, tried, name, keep, set()
@@ -59,7 +58,7 @@ class Clerk:
                 if self.value(f"Boolean({ENDED} && ({script}))"):
                     return
             except RuntimeError:
-                pass  # between two pages there is none
+                pass  # there is none between two pages
             time.sleep(0.02)
         raise TimeoutError(f"{script} at {self.value('location.href')}: {self.value('document.body.innerText')[:600]}")
 
@@ -94,13 +93,13 @@ class Clerk:
         self.opened.ask("Input.insertText", text=text)
 
     def fill(self, name, text):
-        """Writes over what a field has."""
+        """Replaces the text of a field."""
         self.click(f"#{name}")
         self.value(f"document.getElementById({json.dumps(name)}).select()")
         self.type(text)
 
     def give(self, name, path):
-        """Chooses a file, as the window of the system would."""
+        """Chooses a file, as the system's window would."""
         node = self.opened.ask("Runtime.evaluate", expression=f"document.getElementById({json.dumps(name)})")["result"]["objectId"]
         self.opened.ask("DOM.setFileInputFiles", files=[path], objectId=node)
 
@@ -131,7 +130,7 @@ class Clerk:
         self.opened.look(1280, 1000)
 
 
-# What is wrong with names, headings and the document, of what look.js doesn't look at.
+# What is wrong with names, headings and the document, which look.js doesn't check.
 UNNAMED = """(() => {
     const named = (node) => node.labels?.length || node.getAttribute("aria-label") || (node.matches("button, a") && node.textContent.trim());
     const shown = [...document.querySelectorAll("input:not([type=hidden]), select, button, a")];
@@ -165,7 +164,7 @@ def by_clicks(clerk, walk):
 
 
 def has_preview(step):
-    """Whether what is typed at this step is shown once more before it is fixed."""
+    """Whether what is typed at this step is shown again before it is final."""
     return step.startswith(("terms", "seed", "fetch"))
 
 
@@ -204,7 +203,7 @@ def read_by_clicks(clerk, walk, number, reader, goes_back=False):
 
 
 def see_cards_apart(clerk, card):
-    """Goes back to a card that was read, and on to the next one: each has its own marks, and not those that the browser remembers of another."""
+    """Goes back to a card that was read, and on to the next one. Each has its own marks, and not those that the browser remembers from another card."""
     following, own = clerk.value(CARD), f"{clerk.path()}?card={card}"
     clerk.opened.go_back()
     clerk.wait("document.querySelector('form.entry') !== null")
@@ -222,10 +221,10 @@ CONTESTS = """[...document.querySelectorAll("[data-contest]")].map((each) => [ea
     [...each.querySelectorAll("tbody tr:not(.none) th")].map((th) => th.lastChild.textContent.trim())])"""
 
 
-# ---- by keyboard alone
+# ---- by keyboard only
 
 def tab_to(clerk, selector):
-    """Presses the tab key until the keyboard is at an element."""
+    """Presses the tab key until an element has the focus."""
     for _ in range(400):
         if clerk.value(f"document.activeElement.matches({json.dumps(selector)})"):
             is_seen = clerk.value("getComputedStyle(document.activeElement).outlineStyle !== 'none'")
@@ -241,7 +240,7 @@ def enter(clerk, selector):
 
 
 def by_keyboard(clerk, walk):
-    """The town with keys alone; only the window that chooses a file is the system's own."""
+    """The town by keyboard only, except that the window that chooses a file is the system's own."""
     for step, fields, files in walk.steps():
         if clerk.path() != f"/step/{step}":
             enter(clerk, f".next a[href='/step/{step}']")
@@ -252,7 +251,7 @@ def by_keyboard(clerk, walk):
             tab_to(clerk, f"#{name}")
             clerk.give(name, walk.file(FILES[name]))
         for name, value in fields.items():
-            if name not in ("audit", "budget", "way"):  # which stand already as the town has them
+            if name not in ("audit", "budget", "way"):  # these are already set as the town has them
                 tab_to(clerk, f"#{name}")
                 clerk.opened.ask("Input.dispatchKeyEvent", type="rawKeyDown", key="a", windowsVirtualKeyCode=65, modifiers=2, commands=["selectAll"])
                 clerk.type(str(value))
@@ -264,7 +263,7 @@ def by_keyboard(clerk, walk):
 
 def read_by_keyboard(clerk, walk, number, reader):
     enter(clerk, f"a[href='/read/{number}/{reader}']")
-    clerk.wait("document.activeElement.matches('input')")  # the page begins at this field
+    clerk.wait("document.activeElement.matches('input')")  # this field has the focus when the page opens
     clerk.type(READERS[reader])
     clerk.leave(lambda: clerk.opened.press("Enter"))
     while clerk.path().startswith("/read/"):
@@ -278,14 +277,14 @@ def read_by_keyboard(clerk, walk, number, reader):
         clerk.leave(lambda: clerk.opened.press("Enter"))
 
 
-# ---- two tabs, and the button that goes back
+# ---- two tabs, and the back button
 
 OUTDATED = "gone on since this page was made"
-REPLACED = ("plan", "end")  # steps that may be done anew: the page that the browser loads again when it goes back isn't old
+REPLACED = ("plan", "end")  # steps that may be done again: the page that the browser reloads when it goes back isn't old
 
 
 def by_two_tabs(clerk, walk, path):
-    """Each step is done in one tab, while the other one still shows it undone, and then the first one goes back. What old pages send changes no file."""
+    """Each step is done in one tab while the other still shows it undone; then the first tab goes back. What old pages send changes no file."""
     tabs = [clerk.opened.session, clerk.opened.further_page()]
     for step, fields, files in walk.steps():
         clerk.opened.turn_to(tabs[0])
@@ -309,7 +308,7 @@ def by_two_tabs(clerk, walk, path):
         while pages < MOST_PAGES_BACK and clerk.opened.go_back():
             pages += 1
             clerk.wait("document.body !== null")
-            is_page = clerk.value("location.protocol") != "chrome-error:"  # which asks whether a form is sent again
+            is_page = clerk.value("location.protocol") != "chrome-error:"  # such a page asks whether to send a form again
             clerk.tried.see(f"{step}: there is a page {pages} pages back", is_page, clerk.value("document.body.innerText")[:300])
             if step not in REPLACED and clerk.value("document.querySelector(\"main form[action$='/do'] button, main form[action$='/preview'] button\") !== null"):
                 see_outdated(clerk, f"{step}, {pages} pages back")
@@ -318,7 +317,7 @@ def by_two_tabs(clerk, walk, path):
 
 
 def see_outdated(clerk, what):
-    """Presses the button of a page that is old."""
+    """Presses the button of an old page."""
     clerk.click("main .buttons button")
     try:
         clerk.wait(f"document.body.innerText.includes({json.dumps(OUTDATED)})")
@@ -331,10 +330,10 @@ def files_in(path):
     return {name: read(os.path.join(path, name)) for name in os.listdir(path) if os.path.isfile(os.path.join(path, name))}
 
 
-# ---- what else a browser shows
+# ---- other things that a browser shows
 
 def refusals(clerk, place):
-    """A file that is refused stays to be seen with its record and what is nearly right."""
+    """A refused file stays on the page, with its record and what is nearly right."""
     path = os.path.join(place, "bad.raire")
     with open(path, "w") as file:
         file.write("1\nContest,9,2,Ann,Ben\n9,b_1,Ben,ANN\n")
@@ -349,7 +348,7 @@ def refusals(clerk, place):
 
 
 def audit(name, how, place, port, keep):
-    """One audit in one browser, and what was seen."""
+    """Goes through one audit in one browser, and returns what was seen."""
     tried, walk = Tried(), WALKS[name]()
     path = os.path.join(place, f"{name}_{how}")
     try:
@@ -383,7 +382,7 @@ def see_files(tried, name, how, path):
 
 
 def begun(*way):
-    """One audit in a process of its own: the shell that begins a browser knows few numbers of open files."""
+    """Runs one audit in a process of its own, since the shell that starts a browser knows only small file descriptors."""
     return subprocess.Popen([sys.executable, __file__, "--way", json.dumps(way), sys.argv[1]], stdout=subprocess.PIPE, text=True)
 
 

@@ -1,4 +1,4 @@
-"""README's audits in a shell: which files they have, and what they print, by the names that the desk has for it."""
+"""README's audits in a shell: which files they have, and what they print, under the names that the desk uses."""
 import glob
 import os
 import re
@@ -16,9 +16,9 @@ class Shown(NamedTuple):
     """The section of a page that goes through an audit in a shell."""
     page: str
     section: str
-    renamed: dict = {}  # the desk's name of a file that it calls otherwise
+    renamed: dict = {}  # the desk's name of a file, if it differs
     printed: dict = {}  # the desk's file that ends with what a command prints, by how the command begins
-    aside: tuple = ()  # files that are made there and are none of the audit
+    aside: tuple = ()  # files that are made there and aren't part of the audit
     terms: str = ""
 
 
@@ -45,7 +45,7 @@ SHOWN = {
 
 
 def files_of(name, program):
-    """Each file of an audit in a shell: how it is called there, how the desk calls it, and its bytes."""
+    """Each file of an audit in a shell: its name there, the desk's name for it, and its bytes."""
     shown = SHOWN[name]
     yield from given(os.path.join(TOP, "examples", name), shown)
     if shown.terms:
@@ -70,7 +70,7 @@ def given(place, shown):
 def is_same(what, data, there):
     """Whether the desk's file is the one of the shell.
 
-    A command may show the end or the beginning alone of what it prints, and a page says with which paths it was made.
+    A command may show only the end or the beginning of what it prints, and a page contains the paths that it was made with.
     """
     if there is None:
         return False

@@ -1,4 +1,4 @@
-"""A desk that a test began, and somebody who goes through its pages without a browser."""
+"""A desk that a test starts, and a visitor who goes through its pages without a browser."""
 import ctypes
 import html
 import http.client
@@ -13,7 +13,7 @@ import urllib.parse
 
 TOP = os.path.dirname(os.path.dirname(os.path.abspath(__file__)))
 RAIRE = os.path.join(TOP, "raire")
-PATIENCE = 600  # seconds until something that is waited for has to be there
+PATIENCE = 600  # the maximum number of seconds to wait for anything
 HOST = "127.0.0.1"
 PR_SET_PDEATHSIG = 1
 
@@ -24,7 +24,7 @@ def read(path, mode="rb"):
 
 
 def end_with_parent():
-    """Has the system end this process when the test that began it ends, however that is."""
+    """Has the system end this process when the test that started it ends, however that happens."""
     ctypes.CDLL(None).prctl(PR_SET_PDEATHSIG, signal.SIGKILL)
 
 
@@ -55,7 +55,7 @@ class Desk:
         return text.decode()
 
     def end(self, number=signal.SIGTERM):
-        """Ends the desk with its commands: the process group that was begun here."""
+        """Ends the desk and its commands: the process group that was started here."""
         try:
             os.killpg(self.process.pid, number)
         except ProcessLookupError:
@@ -81,19 +81,19 @@ class Answer:
         return html.unescape(found[1]) if found else ""
 
     def words(self):
-        """The words of the page, without its marks."""
+        """The words of the page, without its markup."""
         return " ".join(html.unescape(re.sub("<[^>]*>", " ", self.text)).split())
 
 
 class Visitor:
-    """Who has opened the desk's address, and follows where its pages lead."""
+    """Someone who has opened the desk's address, and follows where its pages lead."""
 
     def __init__(self, desk):
         self.port, self.folder, self.cookie, self.page = desk.port, desk.folder, None, None
         self.page = self.follow(self.ask("GET", desk.address.partition(str(desk.port))[2]))
 
     def ask(self, method, path, body=None, **headers):
-        """One request, and its answer."""
+        """Sends one request, and returns its answer."""
         connection = http.client.HTTPConnection(HOST, self.port, timeout=PATIENCE)
         given = {"Cookie": self.cookie} if self.cookie else {}
         if method == "POST":
@@ -110,7 +110,7 @@ class Visitor:
         return found
 
     def follow(self, answer):
-        """Where a redirection leads, until a page that isn't that of a running command."""
+        """Follows redirections until there is a page that isn't that of a running command."""
         end = time.monotonic() + PATIENCE
         while time.monotonic() < end:
             if answer.status == 303:
@@ -127,7 +127,7 @@ class Visitor:
         return self.page
 
     def post(self, path, fields=(), files=(), version=None):
-        """Fills in a form of the page that was looked at last, and presses its button."""
+        """Fills in a form of the page that was last loaded, and presses its button."""
         own = fields.items() if isinstance(fields, dict) else fields
         values = [("token", self.page.hidden("token")), ("version", version or self.page.hidden("version")), *own]
         body, kind = multipart(values, files)
@@ -152,7 +152,7 @@ def form(**values):
 
 
 def free_ports(count):
-    """Ports that nobody listens at."""
+    """Ports that nothing listens on."""
     places = [socket.socket() for _ in range(count)]
     for place in places:
         place.bind((HOST, 0))

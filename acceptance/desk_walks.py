@@ -1,4 +1,4 @@
-"""README's audits, as somebody goes through them at the desk: what is filled in at each step."""
+"""README's audits as a person goes through them at the desk: what is filled in at each step."""
 import csv
 import html
 import os
@@ -48,7 +48,7 @@ class Walk:
 
 
 def readings_of(text, has_contests):
-    """What was read of each card: missing, or who is ranked in each contest."""
+    """What was read on each card: missing, or who is ranked in each contest."""
     found = {}
     for row in csv.reader(text.splitlines()):
         card, contest, word, ranked = (row[0], row[1], row[2], row[3:]) if has_contests else (row[0], None, row[1], row[2:])
@@ -74,7 +74,7 @@ READERS = {"A": "MK", "B": "JL"}
 
 
 def go_through(visitor, walk, until=None):
-    """Goes on with an audit from where its folder stands, step by step, to its end or up to a step."""
+    """Continues an audit from the state of its folder, step by step, to its end or up to a step."""
     for step, fields, files in walk.steps():
         page = visitor.go("/step/" + step) if visitor.ask("GET", "/step/" + step).status == 200 else None
         if page is None or 'class="typed"' in page.text:
@@ -89,10 +89,10 @@ def go_through(visitor, walk, until=None):
 
 
 def read_cards(visitor, walk, number, readers="AB"):
-    """Readers type in every card that isn't read yet, each by itself."""
+    """Readers type in every card that isn't read yet, each reader independently."""
     for reader in readers:
         person = READERS[reader]
-        page = visitor.go(f"/read/{number}/{reader}")  # which leads back to the step where no card is new
+        page = visitor.go(f"/read/{number}/{reader}")  # this leads back to the step if no card is new
         if "Who reads?" in page.text:
             page = visitor.post(f"/read/{number}/{reader}/begin", {"person": person})
         while 'class="entry"' in page.text and len(re.findall("not read yet", page.text)) > 0:
@@ -118,7 +118,7 @@ def fields_of(page, reading):
 
 
 def contests_of(page):
-    """The contests of a card's page: number, id, and the candidates in their order."""
+    """The contests of a card's page: number, id, and the candidates in order."""
     for number, body in re.findall(r'data-contest="(\d+)">(.*?)</fieldset>', page.text, re.DOTALL):
         title = html.unescape(re.search("<legend>(.*?)</legend>", body)[1])
         yield number, title, [html.unescape(name) for name in re.findall(r'aria-label="(?!no mark)(.*?), rank 1"', body)]

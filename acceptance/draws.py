@@ -1,4 +1,4 @@
-"""A generator of numbers, the same at every run, from which contests are made."""
+"""A generator of numbers from which contests are made. It is the same at every run."""
 
 
 class Draws:

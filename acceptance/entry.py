@@ -1,10 +1,9 @@
 #!/usr/bin/env python3
 """Types whole audits into the page of ./raire cards --entry, in a browser, and looks at the pages of ./raire cards.
 
-acceptance/entry.py PROGRAM [FOLDER] fills in the town's cards by keyboard alone and the village's by mouse, with reloads and an
-end of the browser in the middle: what is saved has to be the examples' seen files, byte for byte. What a seen file can't say
-has to be refused. Then nothing on the pages may overlap or be cut, narrow, wide, dark and as in print (look.js). With a
-folder as second word the screenshots are left there.
+acceptance/entry.py PROGRAM [FOLDER] fills in the town's cards by keyboard only and the village's by mouse, with reloads, and with an end of the browser in
+the middle. What is saved must be the examples' seen files, byte for byte. What a seen file can't say must be refused. Then nothing on the pages may overlap
+or be cut off, narrow, wide, dark and as in print (look.js). If there is a FOLDER, the screenshots are kept in it.
 """
 import base64
 import json
@@ -32,7 +31,7 @@ class Entry:
         self.begin(reader)
 
     def begin(self, reader):
-        """Where readings are kept under this name, the page asks whether the same person goes on."""
+        """Enters a reader's name. If readings are kept under this name, the page asks whether the same person continues."""
         self.opened.press(*reader, "Enter")
         self.opened.wait("!document.getElementById('reading').hidden || !document.getElementById('again').hidden")
         if not self.opened.value("document.getElementById('again').hidden"):
@@ -65,23 +64,23 @@ def rows_of(path):
 
 
 def by_place(rows):
-    """The records of both rounds as a page of all their cards lists them: by batch, and then by number."""
+    """The records of both rounds in the order of a page with all their cards: by batch, and then by number."""
     return sorted(rows, key=lambda row: (row[0].partition("_")[0], int(row[0].partition("_")[2])))
 
 
 def made(tried, name, *words):
     """A page of ./raire cards, in a file of its own."""
     status, page, err = tried.run("cards", *words)
-    is_later = "--after" in words  # then standard error says which cards count again
+    is_later = "--after" in words  # standard error then says which cards count again
     tried.see(f"{name} is made", status == 0 and (is_later or "--seed=1" in words or err == ""), err)
     write(name, page)
     return os.path.abspath(name)
 
 
-# ---- filled in by keyboard alone
+# ---- filled in by keyboard only
 
 def by_keyboard(tried, page, keep):
-    """The town: digits, arrow keys and letters; the page is loaded again at card 20, and the browser ends at card 50."""
+    """The town: digits, arrow keys and letters; the page is reloaded at card 20, and the browser ends at card 50."""
     ids, rows = ["Ash", "Birch", "Cedar", "Elm"], by_place(rows_of(SEEN))
     for part in (rows[:50], rows[50:]):
         with browser.Browser(os.path.abspath("profile"), os.path.abspath("saved")) as opened:
@@ -105,7 +104,7 @@ def by_keyboard(tried, page, keep):
 
 
 def type_reading(entry, ranked, by_arrows):
-    """By digits, or by arrow keys and the space bar, from the first cell on."""
+    """Types a reading with digits, or with arrow keys and the space bar, starting at the first cell."""
     if not ranked:
         entry.press("n")
     elif not by_arrows:
@@ -163,7 +162,7 @@ def refusals(tried, page, keep):
 
 
 def same_initials(tried, page, keep):
-    """A second reader of the same initials is asked, and doesn't get the first one's marks."""
+    """A second reader with the same initials is asked, and doesn't get the first one's marks."""
     with browser.Browser(os.path.abspath("profile"), os.path.abspath("saved")) as opened:
         entry = Entry(opened, "saved")
         entry.open(page, "JD")
@@ -189,7 +188,7 @@ def same_initials(tried, page, keep):
 
 
 def by_marks(tried, keep):
-    """Marks as they stand: two at a rank, a candidate at two ranks, ranks left out, more ranks than candidates; the file has each mark."""
+    """Marks as they are on the card: two at a rank, a candidate at two ranks, skipped ranks, more ranks than candidates. The file has each mark."""
     write("few.csv", "batch,cards\nB1,5\n")
     page = made(tried, "marks.html", "few.csv", "--all", "--batch", "B1", "--entry", "--marks", "--ranks", "5", "--ballots", BALLOTS)
     with browser.Browser(os.path.abspath("profile"), os.path.abspath("saved")) as opened:
@@ -216,7 +215,7 @@ def by_marks(tried, keep):
 
 
 def each_round_apart(tried, town):
-    """Pages of two rounds, and of another seed, have nothing of each other, though one person reads all of them; the files they save have other names."""
+    """Pages of two rounds, and of another seed, share nothing, though one person reads all of them. The files that they save have different names."""
     entry_words = ["--entry", "--ballots", BALLOTS]
     manifest, _, seed, _, draws = town
     first = made(tried, "first.html", manifest, "--seed", seed, "--draws", "3", *entry_words)
@@ -236,7 +235,7 @@ def each_round_apart(tried, town):
 
 
 def keeps_nothing(tried, page):
-    """Where the browser has no storage, that is told, and the page works."""
+    """If the browser has no storage, the page says so, and works."""
     with browser.Browser(os.path.abspath("profile"), os.path.abspath("saved")) as opened:
         gone = "Object.defineProperty(window, '%s', {get() { throw new Error('none'); }});"
         opened.ask("Page.addScriptToEvaluateOnNewDocument", source=gone % "localStorage" + gone % "sessionStorage")
@@ -248,7 +247,7 @@ def keeps_nothing(tried, page):
 
 
 def steps(tried, entry):
-    """Each step with what the page says then, and what the reading is."""
+    """Each step with what the page then says, and what the reading is."""
     for keys, alarm, told in [
         (["Enter"], "Nothing is marked", "nothing yet"), (["1"], "", "1 Ash"), (["1"], "Ash has rank 1 already", "1 Ash"),
         (["ArrowDown", " "], "Rank 1 has Ash already, and a seen file can’t say two at one rank", "1 Ash"),
@@ -294,7 +293,7 @@ def looks(tried, pages, keep):
 
 
 def many(tried):
-    """A page with more candidates than there are digits, whose names are marks, and as long as ids may be."""
+    """A page with more candidates than there are digits, whose names are markup, and as long as ids may be."""
     ids = ["<script>alert(1)</script>", "W" * 64, "a=1 b=2", "{{ 7 * 7 }} '</script>"] + [f"Candidate {c}" for c in range(5, 15)]
     write("names.csv", "".join(f'{c},"{name}"\n' for c, name in enumerate(ids)))
     write("long.csv", "batch,cards\n" + "W" * 56 + ",40\n<b>,40\n")

@@ -1,9 +1,8 @@
 #!/usr/bin/env python3
-"""Tries ./raire export: the assertions of examples and of contests by chance, in SHANGRLA's form, refute the same orders by the same margins.
+"""Tries ./raire export: in SHANGRLA's form, the assertions of examples and of random contests refute the same orders by the same margins.
 
-acceptance/exported.py PROGRAM [COUNT] lets PROGRAM search each ballot file of examples/, within a budget, and COUNT contests that are drawn by chance, exports
-what it prints, and reads that as SHANGRLA's notebooks do: who wins, who loses, who is out already. The last line says how many came out as
-they should.
+acceptance/exported.py PROGRAM [COUNT] has PROGRAM search each ballot file of examples/, within a budget, and COUNT random contests. It exports what PROGRAM
+prints, and reads that as SHANGRLA's notebooks do: who wins, who loses, and who is already eliminated. The last line says how many came out as they should.
 """
 import itertools
 import json
@@ -18,8 +17,8 @@ import plain
 import plain_audit
 
 TOP = os.path.dirname(os.path.dirname(os.path.abspath(__file__)))
-ORDERS = 3_000  # of larger contests so many are tried, drawn by chance
-NODES = "2000"  # a search that wants more is left out: its time would go to the search
+ORDERS = 3_000  # the number of random orders that are tried for larger contests
+NODES = "2000"  # a search that needs more is skipped, since its time would go to the search
 
 
 class Claim:
@@ -37,7 +36,7 @@ class Claim:
         return set(order[:len(self.out)]) == set(self.out) and order[len(self.out)] == self.winner
 
     def votes(self, ranking):
-        """1 for the winner, -1 for the loser, else 0."""
+        """1 for the winner, -1 for the loser, 0 otherwise."""
         if self.kind == "WINNER_ONLY":
             if ranking[:1] == [self.winner]:
                 return 1
@@ -71,7 +70,7 @@ def compare(ballots, path, exported, chance):
 
 
 def tabulated(contest):
-    """The order of elimination, the winner last."""
+    """The order of elimination, with the winner last."""
     lines = plain.tabulation(contest).splitlines()
     return [line.split(" ", 1)[1] for line in lines if line.startswith(("eliminated ", "winner "))]
 
@@ -100,7 +99,7 @@ def main():
         path = os.path.join(folder, "assertions.json")
         for ballots in ballot_files(folder, count):
             with open(path, "wb") as file:
-                draws = ["--cards=1000000"] * (tried % 2)  # every second file says draws, which the export leaves away
+                draws = ["--cards=1000000"] * (tried % 2)  # every second file has draws, which the export omits
                 if subprocess.run([program, "search", "--nodes", NODES, *draws, ballots], stdout=file, stderr=subprocess.DEVNULL).returncode:
                     continue
             ran = subprocess.run([os.path.join(TOP, "tools", "export"), "shangrla", ballots, path], capture_output=True, env={**os.environ, "RAIRE": program})

@@ -1,12 +1,12 @@
 #!/usr/bin/env python3
 """Compares searches for the fewest NENs with plain_fewest.py.
 
-acceptance/fewest.py PROGRAM [CONTESTS] makes so many contests of 2 to 6 candidates, 2,000 if no number is given, and a quarter as many of 8 to 14, most of which have up to 10. A
-search has to print as many NENs as plain_fewest.py finds there have to be, by trying choices of them in the small contests and by a flow in all. Each
-assertion has to have its margin, the smallest of which is the best one, and the order is that of the certificate. `check` says yes to what is printed, and
-refuses it with `no: order .. stands` where any one assertion is left out. At one worker and at eight the bytes are the same. With just as many sets as have to
-stand it is answered, and with one fewer it is spent. All of that is tried again with a gap below the best margin. If it leaves that margin as the least one, the
-bytes are the same. If a smaller margin is used, the file has no order. The last line says how many agreed.
+acceptance/fewest.py PROGRAM [CONTESTS] makes CONTESTS contests of 2 to 6 candidates (2,000 by default), and a quarter as many of 8 to 14, most of them of
+up to 10. A search must print as many NENs as plain_fewest.py finds necessary: by trying choices of them in the small contests, and by a flow in all
+contests. Each assertion must have its margin, the smallest of which is the best one, and the order is that of the certificate. `check` says yes to what is
+printed, and refuses it with `no: order .. stands` if any one assertion is omitted. One worker and eight print the same bytes. With exactly as many sets as
+must stand, the search is answered; with one fewer, it is out of budget. All of that is tried again with a gap below the best margin. If the smallest margin
+with that gap is still the best one, the bytes are the same. If a smaller margin is used, the file has no order. The last line says how many agreed.
 """
 import json
 import multiprocessing.pool
@@ -24,7 +24,7 @@ from draws import Draws
 from limits import MOST_SETS, MOST_WORKERS
 
 GAPS = (1, 20, 50, 100, 250, 500)  # thousandths of the best margin
-MOST_LEFT_OUT = 20  # assertions of a file of which each one is left out in turn; of more so many
+MOST_LEFT_OUT = 20  # each assertion of a file with at most this many is omitted in turn; of a larger file, this many are
 
 
 def ran(program, *words):
@@ -33,7 +33,7 @@ def ran(program, *words):
 
 
 class Contest:
-    """A contest in a file of its own, and how the program's answers about it differ from what is wanted."""
+    """A contest in a file of its own, and how the program's answers about it differ from what is expected."""
 
     def __init__(self, program, folder, number, rankings, n):
         self.program, self.number, self.draws = program, number, Draws(number)
@@ -81,7 +81,7 @@ class Contest:
         return got
 
     def budgets(self, came):
-        """As many sets as have to stand, or one fewer; and a floor above the margin."""
+        """Exactly as many sets as must stand, or one fewer; and a floor above the margin."""
         for sets in {max(came.sets, 1), came.sets - 1} - {0, -1}:
             wanted = plain_fewest.otherwise(self.contest, came, sets)
             more = self.search(f"--sets={sets}")
@@ -117,7 +117,7 @@ class Contest:
         self.see(wanted, "check", self.ballots, self.assertions, f"--sets={sets}")
 
     def left_out(self, value):
-        """Without any one assertion an order stands."""
+        """Without any one of the assertions, an order stands."""
         claims = value["assertions"]
         some = range(len(claims)) if len(claims) <= MOST_LEFT_OUT else {self.draws.below(len(claims)) for _ in range(MOST_LEFT_OUT)}
         nebs = [at for at, claim in enumerate(claims) if claim["kind"] == "NEB"]
@@ -135,7 +135,7 @@ class Contest:
 
 
 def nearly_equal(draws, n, ballots):
-    """Each ranks some candidates, each of whom is ranked as often as any other."""
+    """Rankings of some candidates each; every candidate is equally likely to be ranked."""
     rankings = []
     for _ in range(ballots):
         left, ranking = list(range(n)), []
@@ -179,7 +179,7 @@ def main():
 
 
 class Told:
-    """What is wrong with a contest, by a process of its own."""
+    """What is wrong with a contest, in a process of its own."""
 
     def __init__(self, program, folder):
         self.program, self.folder = program, folder

@@ -1,9 +1,8 @@
 #!/usr/bin/env python3
-"""Tries the line that ./raire adds behind a refusal, and the counts of ./boxes.
+"""Tries the line that ./raire adds after a refusal, and the counts of ./boxes.
 
-acceptance/hints.py PROGRAM makes files that break a rule each, and compares the added line with the one that is wanted here. Status,
-standard output and the program's own line have to stay as they are, also where the line can't be made. The last line says how many
-came out as they should.
+acceptance/hints.py PROGRAM makes files that each break a rule, and compares the added line with the expected one. The status, standard output and the
+program's own line must stay as they are, even if the added line can't be made. The last line says how many came out as they should.
 """
 import errno
 import json
@@ -46,7 +45,7 @@ MANY = json.dumps([f"c{c}" for c in range(limits.MOST_CANDIDATES + 1)])
 CLAIMS = json.dumps({name: json.loads(ASSERTIONS)[name] for name in ("assertions", "candidates", "contest", "winner")}, separators=(",", ":"))
 CLAIMED = CLAIMS.replace
 
-# What a ballot file is, by `tabulate`; the sentences behind the rule's cause.
+# What a ballot file is, by `tabulate`, and the sentences after the rule's cause.
 OF_BALLOTS = [
     ("", "B1", "The file is empty; a > after the command empties its file first"),
     (MANIFEST, "B1", 'It begins with "batch,cards", as a manifest does'),
@@ -178,7 +177,7 @@ OF_CLAIMS = [
      'The rest lacks "Ben". Assertion 1: {"kind":"NEN","loser":"Ben","margin":1,"rest":["Ann"],"winner":"Ann"}'),
 ]
 OF_CONTESTS = 'The contest\'s id is between the card and "{}": only ./raire contests reads such a file'
-# Seen cards, by `audit` and by `poll` with four draws, of cards 1, 2, 3 and 4 (seed 10).
+# Seen cards, by `audit` and by `poll` with four draws, of the cards 1, 2, 3 and 4 (seed 10).
 OF_SEEN = [
     (BALLOTS, "V1", 'It begins with "1", as a ballot file does'),
     ("b_1;ballot\n", "V1", "It has 1 field; its semicolons have to be commas. Record 1, line 1: b_1;ballot"),
@@ -193,7 +192,7 @@ OF_SEEN = [
     (SEEN + "\n" + SEEN, "V3", '"b_1" is also in record 1, line 1. Record 2, line 3: b_1,ballot,Ann'),
     ("b_1,ballot,Anne\n", "V5", '"Anne" isn\'t a candidate; the contest has "Ann". Record 1, line 1: b_1,ballot,Anne'),
 ]
-# Seen cards of two contests, by `contests` with four draws, of cards 1, 2, 3 and 4 (seed 10); where "10" is tied.
+# Seen cards of two contests, by `contests` with four draws, of the cards 1, 2, 3 and 4 (seed 10); contest "10" is tied.
 TWO = "3\nContest,9,2,Ann,Ben\nContest,10,2,Cy,Di\nContest,11,2,Ed,Flo\n9,b_1,Ann\n11,b_2,Flo\n"
 OF_ALL_SEEN = [
     (BALLOTS, "V1", 'It begins with "1", as a ballot file does'),
@@ -208,7 +207,7 @@ OF_ALL_SEEN = [
     ("b_1,9,ballot\n\nb_1,10,ballot\nb_1,9,ballot\n", "V3", '"b_1" is also with "9" in record 1, line 1. Record 3, line 4: b_1,9,ballot'),
     ("b_1,11,ballot,Ann\n", "V5", '"Ann" isn\'t a candidate; the contest has "Ed", "Flo". Record 1, line 1: b_1,11,ballot,Ann'),
 ]
-# Words; which of them is wrong.
+# Words, and which of them is wrong.
 OF_WORDS = [
     (["serch", "x"], '"serch" isn\'t a command; the closest match is "search"'),
     (["x"], '"x" isn\'t a command; the commands are adopt, audit, check, contests, open, plan, plurality, poll, report, sample, search, tabulate, trial, trim'),
@@ -302,7 +301,7 @@ class Tried:
         return ran.returncode, ran.stdout, ran.stderr.decode()
 
     def says(self, words, line):
-        """Behind the program's own line stands this one; the rest is the program's."""
+        """Checks that this line comes after the program's own line, and that everything else is the program's."""
         status, out, err = self.ran(words, self.program)
         got = self.ran(words)
         self.see(f"{words} has {line}", got == (status, out, err + f"raire: {line}\n"), got)
@@ -387,7 +386,7 @@ def audits_are_told(tried):
 
 
 def blanks_are_shown(tried, files):
-    """A seed with other blanks draws other cards: where most of them aren't read, its blanks are shown."""
+    """A seed with other blanks draws other cards: if most of them aren't read, the blanks of the seed are shown."""
     write("seen.csv", "")
     words = ["poll", *files[1:], "seen.csv", "--seed=dice  6 1", "--draws=1"]
     blanks, note = '"dice␣␣6␣1", where each ␣ is a blank', "raire: the seed has two blanks in a row: "
@@ -418,7 +417,7 @@ def contests_are_told(tried):
 
 
 def pluralities_are_told(tried):
-    """A session of plurality is none of audit, and the other way round."""
+    """A session of plurality isn't one of audit, nor the other way round."""
     files = ["ballots.raire", "manifest.csv"]
     status, session, err = tried.ran(["plurality", *files, "--seed=10"])
     tried.see("an audit of first preferences is opened, and nothing more is said", (status, err) == (0, ""), err)
@@ -446,7 +445,7 @@ def words_are_told(tried):
 
 
 def paths_are_told(tried):
-    """Of a path that leads to no file, and of a file that can't be read, the true cause."""
+    """The line gives the true cause for a path that leads to no file, and for a file that can't be read."""
     tried.says(["tabulate", "ballot.raire"], f'no such file: {table.causes()["no such file"]}. The closest match is "ballots.raire". {END}')
     os.symlink("nowhere", "dangling")
     tried.says(["tabulate", "dangling"], f'no such file: {table.causes()["no such file"]}. It is a link, and where it leads there is no file. {END}')
@@ -473,7 +472,7 @@ def paths_are_told(tried):
 
 
 def budgets_are_told(tried):
-    """Behind a budget that is spent the one that goes further is told, by the words alone."""
+    """After a budget that is too small, the line gives a budget that goes further, from the words alone."""
     most = f"--sets {limits.MOST_SETS}"
     further = f"spent: give it {most}; it counts sets of candidates, in place of --nodes, and up to 20 candidates it is never spent. {END}"
     row1, town = (os.path.join(TOP, "examples", name) for name in ("row1", "town"))
@@ -489,7 +488,7 @@ def budgets_are_told(tried):
 
 
 def answers_are_left(tried):
-    """Where nothing is refused, nothing is added and nothing is started."""
+    """If nothing is refused, nothing is added and nothing is started."""
     path = os.path.join(os.getcwd(), "bin")
     os.mkdir(path)
     write("bin/python3", "#!/bin/sh\ntouch started\nexit 1\n")

@@ -1,9 +1,8 @@
 #!/usr/bin/env python3
-"""The built program among failing outputs, files that are none, malicious files and little memory.
+"""The built program with failing outputs, malformed files, malicious files and little memory.
 
-acceptance/hostile.py PROGRAM runs each command that the program has. Whatever happens, it has to end by itself, with a
-status of docs/formats.md and no signal, to write what the status says and nothing else, and to take less than ten seconds
-of processor time. The last line says how many runs did.
+acceptance/hostile.py PROGRAM runs each command that the program has. Whatever happens, the program must end by itself, with a status of docs/formats.md and
+no signal; it must write what the status says and nothing more, and use less than ten seconds of processor time. The last line says how many runs did.
 """
 import os
 import resource
@@ -26,7 +25,7 @@ WITH_LINE = {1, 2, 7, 9, 11, 12}
 WITH_TEXT = {0, 3, 4, 5, 6, 10}
 NOBODY = 65534
 
-# Of each command a line of words that has an answer, on the files of `good_files`.
+# For each command, a line of words that has an answer, on the files of `good_files`.
 LINES = {
     "tabulate": ["tabulate", "ballots.raire"],
     "search": ["search", "ballots.raire"],
@@ -73,7 +72,7 @@ class Runs:
         print(f"{shows}: {told}")
 
     def run(self, shows, words, statuses, **how):
-        """A run that has to end with one of these statuses, and to write as it says."""
+        """A run that must end with one of these statuses, and write what that status says."""
         self.count += 1
         before = resource.getrusage(resource.RUSAGE_CHILDREN)
         how = {"stdout": subprocess.PIPE, "stderr": subprocess.PIPE, "stdin": subprocess.DEVNULL, "timeout": 120, **how}
@@ -124,7 +123,7 @@ def close_all():
         os.close(number)
 
 
-# ---- files that are none
+# ---- names that aren't those of files
 
 def names(runs):
     os.mkdir("folder")
@@ -160,12 +159,12 @@ def names_of(runs, line, place):
 
 
 def as_nobody():
-    """The system's superuser may read all, so a file is forbidden to another one."""
+    """The system's superuser may read everything, so another user is the one who may not read a file."""
     return {"user": NOBODY, "group": NOBODY, "extra_groups": []} if os.getuid() == 0 else {}
 
 
 def growing(runs, shown, put, name):
-    """Someone writes to the end of the file while it is read."""
+    """A file that someone appends to while it is read."""
     with open(name, "rb") as file:
         data = file.read()
     ends = threading.Event()
@@ -191,7 +190,7 @@ def repeated(text, size=LARGEST):
 
 
 def in_json(name, text):
-    """An assertion file in which a member is replaced by this text."""
+    """An assertion file with one member replaced by this text."""
     members = {
         "assertions": b"[]", "candidates": b'["1","2"]', "contest": b'"7"', "margin": b"1", "order": b'["1","2"]', "records": b"1",
         "version": b"1", "winner": b'"1"', name: text,
@@ -257,7 +256,7 @@ MANIFESTS = COMMA_SEPARATED + [
 
 
 def in_version_2(name, text, cards=b"1", gamma=b"100", limit=b"600000"):
-    """The same, of the version that says draws."""
+    """The same, in the version with draws."""
     further = b'"version":2,"cards":%s,"gamma":%s,"limit":%s' % (cards, gamma, limit)
     return in_json(name, text).replace(b'"version":1', further)
 
@@ -270,8 +269,8 @@ PLANNED = [
 ]
 
 
-# Of each kind of file the commands that are given malicious ones, with the statuses that may come beside those of the table. All go to the
-# first command; a further one, which reads them likewise, gets few of those that have to be refused.
+# For each kind of file, the commands that are given malicious ones, with the statuses that may come in addition to those of the table. The first command gets
+# all of them. Each other command, which reads them in the same way, gets only a few of those that must be refused.
 MALICIOUS = {
     "ballots.raire": (BALLOTS, {"tabulate": set(), "open": {2, 6}, "plurality": {2, 3}, "contests": {2}}), "plural.json": (SESSIONS, {"plurality, a round": {2}}),
     "assertions.json": (ASSERTIONS, {"check": set(), "trim": {0, 2}, "plan": {0, 2}, "poll": {0, 2}, "adopt": {0, 2, 6}}),
@@ -299,7 +298,8 @@ def malicious(runs):
 
 
 def many_contests(runs):
-    """As many contests as there may be: of as many candidates as may be and without ballots, each a tie; and with ballots, as many as a file may have."""
+    """As many contests as there may be, each with as many candidates as there may be: first without ballots, so that each is a tie, then with as many
+    ballots as a file may have."""
     ids, cards = b",".join(b"c%d" % c for c in range(MOST_CANDIDATES)), MOST_RECORDS // MOST_CONTESTS
     heads = b"%d\n" % MOST_CONTESTS + b"".join(b"Contest,%d,%d,%s\n" % (k, MOST_CANDIDATES, ids) for k in range(MOST_CONTESTS))
     with open("many.raire", "wb") as file:
@@ -314,13 +314,13 @@ def many_contests(runs):
     runs.run("contests: many with many ballots", ["contests", "full.raire", "full.csv", "full_by.csv", "--seed=1", "--draws=1"], {10})
 
 
-# Where a risk is very near the limit, bounds don't tell whether it is within it, and each draw is a step. A file may ask that of each of its
-# assertions, so it isn't given more of them.
+# If a risk is very near the limit, bounds don't show whether it is within the limit, and each draw is a step. A file may require that for each of its
+# assertions, so it isn't given more of them than this.
 MOST_DOUBTFUL = 1_000
 
 
 def doubtful(runs):
-    """Draws of which bounds of the risk don't tell whether they are enough."""
+    """Numbers of draws for which bounds on the risk don't show whether they are enough."""
     margin, cards, gamma, limit = 34, 103_962, 50, 1
     audits.write("doubtful.raire", audits.BALLOTS.replace("7,b_1,1\n", "".join(f"7,b_{k},1\n" for k in range(margin))))
     claim = NEB_2.replace(b'"margin":1', b'"margin":%d' % margin).replace(b'"draws":1', b'"draws":%d' % plain_audit.clean_draws(cards, margin, gamma, limit))
@@ -336,8 +336,8 @@ MANY_SETS = 100_000
 
 
 def many_sets(runs):
-    """Words that are none; and as many candidates as may be, of whom one leads: each set of the others may come last, and no assertion of
-    less than the best margin refutes that, so more sets count than any budget has."""
+    """Bad words; and as many candidates as there may be, one of whom leads. Each set of the others may come last, and no assertion of less than the best
+    margin refutes that, so more sets count than any budget has."""
     for words in (["--sets=1", "--nodes=1"], ["--sets=0"], [f"--sets={MOST_SETS + 1}"], ["--sets=-1"], ["--sets="], ["--sets=1", "--sets=1"]):
         for line in (["search", "ballots.raire"], ["check", "ballots.raire", "assertions.json"], ["trial", "--number=0"]):
             runs.run(f"{line[0]} {words}", [*line, *words], {1})

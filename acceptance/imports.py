@@ -1,9 +1,10 @@
 #!/usr/bin/python3
-"""Tries ./raire import: what ./raire export writes in each form comes back with the same claims, files made by hand too, and damaged ones are refused.
+"""Tries ./raire import: what ./raire export writes in each form comes back with the same claims, as do files made by hand, and damaged ones are refused.
 
-acceptance/imports.py PROGRAM [COUNT] lets PROGRAM search COUNT contests that are drawn by chance, exports each in each form, imports that, and compares the claims with
-those of the assertion file as sets. PROGRAM adopts what was imported, with the same claims and margins. It calls candidates by names too, and reads what is exported for raire-rs as a plain problem. It imports the files of examples/imports,
-damages each of their values and members, and cuts them off. The last line says how many came out as they should.
+acceptance/imports.py PROGRAM [COUNT] has PROGRAM search COUNT random contests. It exports each in each form, imports the result, and compares the claims
+with those of the assertion file as sets. PROGRAM adopts what was imported, with the same claims and margins. The script also puts names in place of ids,
+and reads what is exported for raire-rs as a plain problem. It imports the files of examples/imports, damages each of their values and members, and cuts the
+files off. The last line says how many came out as they should.
 """
 import contextlib
 import csv
@@ -29,14 +30,14 @@ import plain_audit  # noqa: E402
 import words as office_words  # noqa: E402
 
 EXAMPLES = os.path.join(TOP, "examples", "imports")
-FORMS = {"shangrla": ("raire",), "raire-java": ("raire-java", "raire-rs"), "raire-rs": ("raire-rs", "raire-java")}  # of each form of export those that read it
-MANY, SECONDS = 14_000, 10.0  # a file of so many assertions is made and imported within this time of a processor
-GONE = object()  # in place of a value that is taken out
+FORMS = {"shangrla": ("raire",), "raire-java": ("raire-java", "raire-rs"), "raire-rs": ("raire-rs", "raire-java")}  # the readers of each form of export
+MANY, SECONDS = 14_000, 10.0  # a file with this many assertions is made and imported within this much processor time
+GONE = object()  # stands for a value that is removed
 ODD = [None, True, -1, 0, 2.5, 10**20, "", "Ash", "\ud800", "x" * 5_000, [], ["Ash"], [[]], {}, {"Ok": {}}]
 
 
 def called(tool, given):
-    """Status and both outputs of a call, made in this process."""
+    """The status and both outputs of a call, made in this process."""
     out, err = io.TextIOWrapper(io.BytesIO(), newline=""), io.StringIO()
     with contextlib.redirect_stdout(out), contextlib.redirect_stderr(err):
         status = office_words.main(tool.NAME, tool.answer, given)
@@ -51,14 +52,14 @@ def claims_in(file):
 
 
 def margins_in(text):
-    """Each assertion of an assertion file with its margin, and the rest that is said of the contest, but for the order and the version."""
+    """Each assertion of an assertion file with its margin, and what else the file says of the contest, except the order and the version."""
     file = json.loads(text)
     claims = sorted((each["kind"], each["winner"], each["loser"], sorted(each.get("rest", ())), each["margin"]) for each in file["assertions"])
     return claims, *(file[name] for name in ("candidates", "contest", "margin", "records", "winner"))
 
 
 def wrong_in(text, wanted):
-    """What isn't right about the text of a claims file, or None."""
+    """What is wrong with the text of a claims file, or None."""
     file = json.loads(text)
     if text != json.dumps(file, sort_keys=True, separators=(",", ":")) + "\n" or set(file) != {"assertions", "candidates", "contest", "winner"}:
         return f"isn't canonical: {text}"
@@ -74,10 +75,10 @@ def write(path, data):
         file.write(data)
 
 
-# ---- what is exported comes back
+# ---- what is exported is imported again
 
 def with_names(value, names):
-    """A value of JSON in which each id is a name."""
+    """A value of JSON with each id replaced by a name."""
     if isinstance(value, dict):
         return {key: with_names(each, names) for key, each in value.items()}
     return [with_names(each, names) for each in value] if isinstance(value, list) else names.get(value, value) if isinstance(value, str) else value
@@ -113,12 +114,12 @@ def round_trips(program, folder, count):
                 write(claims, got)
                 adopted = ran(program, "adopt", "--nodes", exported.NODES, ballots, claims)
                 yield f"{ballots} as {form} by {reader}, adopted: {adopted}", adopted[0] == 0 and margins_in(adopted[1]) == margins_in(text)
-            if wanted[2] not in wanted[1]:  # what has the same id as a candidate would have the same name
+            if wanted[2] not in wanted[1]:  # a contest with the same id as a candidate would get the same name
                 yield f"{ballots} as {form}, named", is_read_by_names(chance, made, readers[0], wanted, out, names)
 
 
 def is_read_by_names(chance, made, reader, wanted, out, path):
-    """Names that are written in other letter forms still count, and candidates come in the order of the file of names."""
+    """Names in other letter forms still count, and candidates come in the order of the file of names."""
     _, ids, contest, _ = wanted
     names = {each: f"Zoë  {number} of {each}" for number, each in enumerate(ids)}
     with open(path, "w", newline="") as file:
@@ -160,7 +161,7 @@ def places_in(value, path=()):
 
 
 def changed(document, path, how):
-    """The same JSON with another value, or none, at a place."""
+    """The same JSON, with the value at one place changed or removed."""
     if not path:
         return {} if how is GONE else how
     copy = json.loads(json.dumps(document))
@@ -194,7 +195,7 @@ def damaged(folder):
 
 
 def refused():
-    """The calls of bad_calls.py, whose lines acceptance/refusals.py compares whole."""
+    """The calls of bad_calls.py, whose lines acceptance/refusals.py compares in full."""
     for name, make in bad_calls.CASES.items():
         if name.startswith("import: "):
             with tempfile.TemporaryDirectory() as folder:
@@ -207,7 +208,7 @@ def refused():
 
 
 def many(folder):
-    """A file of many assertions of as many candidates as there may be."""
+    """A file of many assertions, with as many candidates as there may be."""
     chance, names = random.Random("many"), [f"Candidate number {number}" for number in range(32)]
     claims = []
     for number in range(MANY):

@@ -1,4 +1,4 @@
-"""Types at a shell as a person does, and looks what a TAB makes of a line."""
+"""Types at a shell as a person does, and checks what a TAB makes of a line."""
 import os
 import pty
 import re
@@ -12,7 +12,7 @@ HOME, END, TAB, ENTER = "\x01", "\x05", "\t", "\r"
 
 
 class Shell:
-    """To be used in a `with`: a shell at a terminal of its own. `lines` are typed first."""
+    """A shell at a terminal of its own, for use in a `with`. `lines` are typed first."""
 
     def __init__(self, words, lines, folder):
         self.words, self.lines, self.folder = words, lines, folder
@@ -38,13 +38,13 @@ class Shell:
         return self.printed(f"{line}{TAB}{HOME}printf '<%s>\\n' '{END}'")
 
     def printed(self, keys):
-        """What a line prints between < and >, or all that is shown where it prints nothing of the kind."""
+        """What a line prints between < and >, or everything that is shown if it prints no such thing."""
         os.write(self.terminal, (keys + ENTER).encode())
         shown = self.shown(rf"\n<[^\n]*>\r*\n(?s:.*){READY}")
         return (re.findall(r"^<(.*)>\r*$", shown, re.MULTILINE) or [shown])[-1]
 
     def shown(self, end):
-        """What is shown up to this end, or to the last second."""
+        """What is shown until this end appears, or until time runs out."""
         shown, last = "", time.monotonic() + SECONDS
         while not re.search(end, shown) and time.monotonic() < last:
             if select.select([self.terminal], [], [], 1)[0]:

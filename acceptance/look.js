@@ -1,5 +1,5 @@
-// What is wrong with a page as it is laid out, told in the element #found: texts with too little contrast, that are cut,
-// that stand on one another or can't be selected, a page wider than its window, drawings without a text, what no keyboard reaches.
+// Writes what is wrong with a page as it is laid out into the element #found: texts that have too little contrast, are cut off,
+// overlap or can't be selected, a page wider than its window, drawings without a text, and what no keyboard reaches.
 (() => {
     const found = [];
     const tell = (what, node) => found.push(what + ": " + (node.textContent || node.id || "").trim().slice(0, 60));

@@ -1,4 +1,4 @@
-"""Exports drawn by chance, in every form that ./raire convert reads, with every rule in them."""
+"""Random exports, in every form that ./raire convert reads, with every rule in them."""
 import csv
 import functools
 import json
@@ -15,7 +15,7 @@ WRITE_IN = "Write-in"
 
 
 class Drawn:
-    """Contests with their candidates, and on each card the marks by rank."""
+    """Contests with their candidates, and the marks on each card by rank."""
 
     def __init__(self, chance, most_contests=3, most_at_a_rank=3, skips=True):
         self.chance = chance
@@ -48,7 +48,8 @@ def dump(path, value, chance):
 # ---- Dominion
 
 def told(marks, ranks, chance):
-    """The overvotes and undervotes of marks, in one of the meanings that they may have; an overvote's marks needn't be counted as votes."""
+    """The overvotes and undervotes of these marks, in one of the meanings that these numbers may have. The marks of an overvote needn't be counted as
+    votes."""
     by_rank = {}
     for made in marks:
         if made["IsVote"]:
@@ -250,7 +251,7 @@ def plain(folder, chance):
 # ---- PrefLib
 
 def complete(chance, names, kind):
-    """An order of all names, in which some share a place where the kind has ties."""
+    """An order of all names, some of which share a place if the kind has ties."""
     left, places = chance.sample(names, len(names)), []
     while left:
         size = chance.choice([1, 1, 2]) if kind == "toc" else 1
@@ -423,7 +424,7 @@ def rctab(folder, chance, is_unified=False):
 # ---- contests whose candidates aren't ranked
 
 def unranked(folder, chance):
-    """Dominion's JSON with contests of one and of several seats, and overvotes as it may write them."""
+    """Dominion's JSON with contests of one seat and of several, and overvotes as it may write them."""
     version, contests, listed, sessions = "5.10.50.85", [], [], []
     for number in range(1, 1 + chance.randint(1, 3)):
         seats, names = chance.randint(1, 3), chance.sample(NAMES, chance.randint(4, 6)) + [WRITE_IN] * maybe(chance, 0.5)

@@ -12,7 +12,7 @@ MOST, BATCH = 20, 100  # candidates; cards
 
 
 def contest_of(draws, name, cards):
-    """Its candidates, and the ranking on each card that has it. One in eight is a landslide over many small ones, some tie."""
+    """A contest's name, its candidates, and the ranking on each card that has it. One contest in eight is a landslide over many small candidates; some tie."""
     n = 2 + draws.below(MOST - 1)
     ids = [f"{11 + c}" for c in range(n)]
     kind = draws.below(8)
@@ -37,7 +37,7 @@ def write(folder, name, lines):
 
 
 def seen_of(draws, cards, ids, ranked, drawn):
-    """What was read of the first cards that were drawn: now and then one is missing or read otherwise."""
+    """What was read on the first cards that were drawn: now and then one is missing or read otherwise."""
     for card in dict.fromkeys(cards[at - 1] for at in drawn):
         chance = draws.below(200)
         if chance == 0:
@@ -65,7 +65,7 @@ def write_county(folder, draws, count, audit):
 
 
 def write_state(folder, contests, counties, first=0, audits=AUDITS):
-    """Contests in counties, with a table of terms. The first county is the one of this number."""
+    """Writes contests in counties, with a table of terms. `first` is the number of the first county."""
     rows = ["county,contest,audit,limit,gamma,seed,draws,trim", f"*,,none,,,{SEED},{' '.join(map(str, LOOKS))},"]
     for at in range(counties):
         name, audit = f"county {at + 1:03d}", audits[at % len(audits)]

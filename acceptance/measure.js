@@ -1,4 +1,4 @@
-// Of each page in a frame, how wide its bars are drawn beside which numbers, told in the element #found.
+// Writes, for each page in a frame, how wide its bars are drawn next to which numbers, into the element #found.
 addEventListener("load", () => {
     const width = (node) => node ? node.getBoundingClientRect().width : 0;
     const number = (node) => node ? Number(node.textContent.replace(/[^0-9]/g, "")) : 0;

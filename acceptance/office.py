@@ -1,9 +1,8 @@
 #!/usr/bin/env python3
-"""Tries what an office uses around an audit: ./raire cards, agree, batches, boxes, manifest, rounds, names for ids, and what is said of terms.
+"""Tries what an office uses around an audit: ./raire cards, agree, batches, boxes, manifest, rounds, names for ids, and the notes on terms.
 
-acceptance/office.py PROGRAM compares them with the examples' files and with what plain_audit.py draws and reads, and tries
-words and files that are refused. The page to type readings into is tried by acceptance/entry.py. The last line says how
-many came out as they should.
+acceptance/office.py PROGRAM compares them with the examples' files and with what plain_audit.py draws and reads, and tries words and files that are
+refused. acceptance/entry.py tries the page for typing in readings. The last line says how many came out as they should.
 """
 import os
 import subprocess
@@ -62,7 +61,7 @@ def read(path):
 # ---- ./raire cards
 
 def wanted_cards(seed, first, last):
-    """Lines of a table, by the plain program's draws: each card once that no draw before `first` took, in the manifest's order."""
+    """The lines of a table, by the plain program's draws: each card that no draw before `first` took, once, in the manifest's order."""
     with open(MANIFEST, "rb") as file:
         manifest = plain_audit.manifest_of(file.read())
     draws = {}
@@ -109,7 +108,7 @@ def shelves(tried):
 
 
 def sheets(tried):
-    """A sheet is refused by an audit until each reading is there, at the record of the first card that has none."""
+    """An audit refuses a sheet until each reading is there, and names the record of the first card without one."""
     status, sheet, err = tried.run("cards", MANIFEST, "--seed", SEED, "--draws", "40", "--sheet")
     first = [line for line in read(SEEN).splitlines() if line.partition(",")[0] + ",\n" in sheet]
     tried.see("a sheet has the ids", sheet == "".join(line.partition(",")[0] + ",\n" for line in first) and (status, err) == (0, ""))
@@ -201,7 +200,7 @@ def agreements(tried):
 
 
 def readings(tried):
-    """Files are read as the plain program reads them."""
+    """Files are read in the same way as by the plain program."""
     draws = Draws(36)
     for _ in range(20_000):
         data = "".join('ab,,""  \t\r\n'[draws.below(11)] for _ in range(draws.below(14))).encode()
@@ -212,7 +211,7 @@ def readings(tried):
 # ---- ./raire batches
 
 def ward(margin, names=("P017", "P018"), contest="Ward 3"):
-    """The records of a contest of two batches, each of 194 ballots, that Moss wins by so many votes."""
+    """The records of a contest of two batches with 194 ballots each, which Moss wins by this margin."""
     first = (388 + margin) // 2
     lines = ["1", f"Contest,{contest},2,Lee,Moss"]
     for number in range(388):
@@ -282,7 +281,7 @@ def counted_boxes(tried):
     tried.refused(2, "raire: b.raire: M7 at 8\n", "boxes", "b.raire", "few.csv")
 
 
-# ---- all cards, marks as they stand, names
+# ---- all cards, marks as they are on the card, names
 
 def all_cards(tried):
     write("m.csv", "batch,cards\nB1,2\nB2,1\nB3,2\n")
@@ -331,7 +330,7 @@ def marks(tried):
 
 
 def pairs(tried):
-    """A contest of two seats, from its sheet to the sign-off of each pair; and one card that was recorded wrong."""
+    """A contest of two seats, from its sheet to the sign-off of each pair; and one card that was recorded incorrectly."""
     chosen = [["Ann", "Ben"]] * 40 + [["Ann"]] * 20 + [["Ben", "Cy"]] * 15 + [["Cy"]] * 10 + [["Ann", "Ben", "Cy"]] * 5 + [["Di", "Ann"]] * 10
     head = [*"CvrNumber TabulatorNum BatchId RecordId".split(), "Ann", "Ben", "Cy", "Di"]
     rows = [[str(k), "1", "1", str(k), *("1" if c in votes else "0" for c in head[4:])] for k, votes in enumerate(chosen, 1)]
@@ -393,7 +392,7 @@ ALIKE = (("Birch", "Birch"), ("Birch", "birch"), ("Ann Lee", "Ann  Lee"), ("Ann 
 
 
 def alike(tried):
-    """Names that look alike are refused by each tool that takes names, with both records and ids."""
+    """Names that look alike are refused by each tool that takes names; the message has both records and both ids."""
     write("b.raire", "1\nContest,101,3,15,16,17\n101,b_1,15\n101,b_2,16\n101,b_3,16\n101,b_4,17,16\n")
     write("m.csv", "batch,cards\nb,4\n")
     write("seen.csv", "b_1,ballot,15\n")
@@ -431,7 +430,7 @@ def run_script(tried, *words):
     return ran.returncode, ran.stdout, ran.stderr
 
 
-# ---- terms that are easily taken otherwise
+# ---- terms that are easily misread
 
 def terms(tried):
     import term_notes as told
@@ -463,7 +462,7 @@ def terms(tried):
 
 
 def by_the_script(tried):
-    """./raire says on standard error what a limit is in percent and which blanks a seed has; standard output and status are the program's."""
+    """On standard error ./raire gives a limit in percent, and says which blanks a seed has; standard output and the status are the program's."""
     walk.write_stand_in(tried.program, "raire")
     write("names.csv", "id,name\nBirch,Bea Birch\n")
 
@@ -527,7 +526,7 @@ def manifests(tried):
 # ---- ./raire rounds
 
 def rounds(tried):
-    """By the order that is given where candidates tie; the same as the program where they don't."""
+    """With the order that is given if candidates tie; the same as the program if they don't."""
     draws = Draws(60)
     for number in range(60):
         n = 2 + draws.below(4)
@@ -553,7 +552,7 @@ def rounds(tried):
     tried.see("an order without one who ties stops there", tried.run("rounds", tie, "--ties=3,1")[0] == 3)
 
 
-# ---- words and outputs of all
+# ---- words and outputs of all tools
 
 def helps(tried):
     for script in ("cards", "agree", "batches", "boxes", "manifest", "rounds"):

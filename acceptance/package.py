@@ -1,9 +1,9 @@
 #!/usr/bin/env python3
-"""Tries the Debian package of a release: made twice, judged by lintian, and installed, used for README's walk and removed in a clean root.
+"""Tries the Debian package of a release: it is made twice, judged by lintian, installed in a clean root, used there for README's walk, and removed.
 
-acceptance/package.py PROGRAM [--debootstrap] makes the package of this clone's commit with PROGRAM in it. The clean root has the packages of this machine
-that any system has, and Python; with --debootstrap it comes from the distribution. What isn't here (lintian, dpkg, the right to change root) isn't tried, and
-a line says so. The last line says how many things were as they should be.
+acceptance/package.py PROGRAM [--debootstrap] makes the package of this clone's commit with PROGRAM in it. The clean root has those packages of this machine
+that every system has, and Python; with --debootstrap it comes from the distribution. If something isn't available (lintian, dpkg, the right to change
+root), what needs it isn't tried, and a line says so. The last line says how many checks passed.
 """
 import gzip
 import hashlib
@@ -22,7 +22,7 @@ TOP = walk.TOP
 sys.dont_write_bytecode = True
 sys.path.insert(0, os.path.join(TOP, "tools", "office"))
 
-import release  # noqa: E402 (that of office/)
+import release  # noqa: E402 (the one in office/)
 from ask import Refusal  # noqa: E402
 
 KIT = "a kit of that time"
@@ -48,19 +48,19 @@ def not_tried(what, why):
 # ---- a clean root
 
 def installed():
-    """Of each package of this machine: whether any system has it, what it stands on, and what else it is called."""
+    """For each package of this machine: whether every system has it, what it depends on, and its other names."""
     form = "${Package}\t${Essential}\t${Pre-Depends}, ${Depends}\t${Provides}\n"
     rows = [line.split("\t") for line in ran("dpkg-query", "--show", f"--showformat={form}")[1].splitlines()]
     return {row[0]: row[1:] for row in rows}
 
 
 def names_in(relation):
-    """Of each thing that a package stands on, the packages that would do."""
+    """For each dependency of a package, the packages that would satisfy it."""
     return [[re.split(r"[\s(:\[]", name.strip())[0] for name in part.split("|")] for part in relation.split(",") if part.strip()]
 
 
 def needed(packages):
-    """The packages that any system has, those that README needs, and all that these stand on."""
+    """The packages that every system has, those that README needs, and everything that these depend on."""
     by_name = {name: name for name in packages}
     for name, (_, _, provides) in packages.items():
         for also, in names_in(provides):
@@ -76,7 +76,7 @@ def needed(packages):
 
 
 def copy_packages(root):
-    """A root with some packages of this machine, and with dpkg's own account of them."""
+    """Makes a root with some packages of this machine, and with dpkg's own records of them."""
     names = needed(installed())
     for link in ("bin", "sbin", "lib", "lib32", "lib64", "libx32"):
         if os.path.islink(f"/{link}"):
@@ -106,7 +106,7 @@ def copy_packages(root):
 
 
 def clean_root(root, is_from_afar):
-    """Why there is none, or an empty text."""
+    """Makes a clean root; returns why that isn't possible, or an empty text."""
     if os.geteuid() != 0:
         return "this needs root"
     if is_from_afar:
@@ -132,7 +132,7 @@ def as_made(parts, again):
 
 
 def as_listed(path, tree, folder):
-    """The list of digests has each file of the package once, and the package needs the Python that its tools do."""
+    """The list of digests has each file of the package once, and the package needs the same Python as its tools."""
     control = os.path.join(folder, "control")
     yield "its control files are unpacked", ran("dpkg-deb", "--control", path, control)[0] == 0
     with open(os.path.join(control, "md5sums")) as file:
@@ -206,7 +206,7 @@ TYPED = {
 
 
 def typed(words, line):
-    """What a TAB makes of lines, in a shell at a terminal, in the folder of README."""
+    """What a TAB makes of lines, in a shell at a terminal, in README's folder."""
     with keys.Shell(words, [line], TOP) as shell:
         for begun, wanted in TYPED.items():
             got = shell.completed(begun)
@@ -218,13 +218,13 @@ def in_root(root, *words, place="/"):
 
 
 def files_of(root):
-    """All files but those of the system itself and of apt's own account."""
+    """All files except those of the system itself and apt's own records."""
     apart = tuple(os.path.join(root, name) for name in ("proc", "var/lib/dpkg", "var/lib/apt", "var/cache", "var/log", "tmp", "dev", "root"))
     return {os.path.join(folder, name) for folder, folders, names in os.walk(root) for name in folders + names if not folder.startswith(apart)}
 
 
 def used(root, path, digest):
-    """Installed by apt, walked through by README, and removed."""
+    """Installs the package with apt, goes through README, and removes the package."""
     before = files_of(root)
     shutil.copy(path, os.path.join(root, "root", "raire.deb"))
     done = in_root(root, "apt-get", "install", "-y", "--no-install-recommends", "./raire.deb", place="/root")
@@ -250,7 +250,7 @@ def used(root, path, digest):
     yield "a command that needs the repository says so", in_root(root, "raire", "release")[0] == 1
     done = in_root(root, "apt-get", "purge", "-y", "raire")
     yield f"it is removed: {done}", done[0] == 0
-    its_own = ("/etc/shells", "/var/lib/shells.state")  # the system's, as are the folders of Python
+    its_own = ("/etc/shells", "/var/lib/shells.state")  # these are the system's, as are the folders of Python
     left = {path for path in files_of(root) - before if "/usr/lib/python3" not in path and not path.endswith(its_own)}
     yield f"nothing of it is left: {sorted(left)[:5]}", not left
 

@@ -1,13 +1,12 @@
 #!/usr/bin/env python3
 """Tries ./raire show: what it refuses, that its numbers are the program's, and how its pages look in a browser.
 
-acceptance/page.py PROGRAM [AUDITS] first tries words, programs and files that are refused, and what the page says of sessions
-and seen cards. Then it makes pages of so many generated audits, 40 if no number is given, and compares their numbers
-with what the commands print; of as many audits of plurality contests and as many polls; and of as many generated contests, whose bars it measures. PROGRAM is asked; for commands that it
-doesn't have, plain_audit.py. Then the example audits, contests of many candidates and one with names that are no names are opened in
-a browser (the package chromium-headless-shell or chromium, or google-chrome): narrow, wide, dark and as in print, nothing may overlap
-or be cut, and contrast, texts beside drawings and what a keyboard reaches have to hold. With a folder as third word the screenshots
-are left there.
+acceptance/page.py PROGRAM [AUDITS [FOLDER]] first tries words, programs and files that are refused, and what the page says of sessions and seen cards. Then
+it makes pages of AUDITS generated audits (40 by default), of as many audits of plurality contests and of as many polls, and compares their numbers with
+what the commands print; and pages of as many generated contests, whose bars it measures. It asks PROGRAM, or plain_audit.py for commands that PROGRAM
+doesn't have. Then it opens the example audits, contests of many candidates and one with strange names in a browser (the package chromium-headless-shell or
+chromium, or google-chrome). Narrow, wide, dark and as in print, nothing may overlap or be cut off, and contrast, texts next to drawings and what a keyboard
+reaches must be right. If there is a FOLDER, the screenshots are kept in it.
 """
 import html
 import itertools
@@ -44,7 +43,7 @@ FLAGS = ["--headless", "--no-sandbox", "--disable-gpu", "--hide-scrollbars"]
 LOOKS = {"narrow": (360, "screen", False), "wide": (1200, "screen", False), "dark": (900, "screen", True), "print": (700, "print", False)}
 DARK = "@media screen and (prefers-color-scheme: dark)"
 
-# Asks the program, and plain_audit.py where the program has no such command.
+# Asks the program, or plain_audit.py if the program has no such command.
 ASKS = """#!/usr/bin/env bash
 case " $COMMANDS " in *" $1 "*) exec "$PROGRAM" "$@" ;; esac
 exec "$PLAIN" "$@"
@@ -62,7 +61,7 @@ class Tried:
             print(f"./raire show: {shows}: not so {told}")
 
 
-# Stands for the ./raire of a clone, without a build.
+# Replaces the ./raire of a clone, without a build.
 STANDS_IN = """#!/usr/bin/env bash
 case "$1" in --build) exit ;; --version) echo "raire 1a2b3c4; kit 5"; exit ;; esac
 exec "$PROGRAM" "$@"
@@ -91,7 +90,7 @@ class Shows:
 
 
 def text_of(page):
-    """The words of a page, without its marks."""
+    """The words of a page, without its markup."""
     return " ".join(html.unescape(re.sub("<[^>]*>", " ", page.partition("<main>")[2])).split())
 
 
@@ -134,7 +133,7 @@ def refusals(shows, tried):
     ]:
         got = shows.run(*words)
         tried.see(f"{words} are refused", got[0] == status and got[1] == "" and got[2].startswith(told), got)
-        is_of_program = told.startswith("raire: ") and status == 2  # ./raire adds what to do, and the program alone is asked here
+        is_of_program = told.startswith("raire: ") and status == 2  # ./raire adds what to do, and here only the program is asked
         tried.see(f"what to do about {words}", is_of_program or " What to do: " in got[2] or "./raire help show" in got[2], got)
     before = sorted((name, open(name).read()) for name in os.listdir("."))
     status, page, err = shows.run(*whole, "seen.csv")
@@ -151,7 +150,7 @@ def refusals(shows, tried):
 # ---- words
 
 def words(shows, tried):
-    """Words are judged as ./raire's are, whatever the files are."""
+    """Words are judged as ./raire judges them, whatever the files are."""
     audits.write("ballots.raire", audits.BALLOTS)
     audits.write("assertions.json", audits.ASSERTIONS)
     audits.write("manifest.csv", audits.MANIFEST)
@@ -196,7 +195,7 @@ def copy_of_clone(folder):
 
 
 def programs(shows, tried):
-    """The page names the program that was asked, and calls none proved but the clone's own."""
+    """The page names the program that was asked, and calls only the clone's own program proved."""
     audits.write("ballots.raire", audits.BALLOTS)
     audits.write("seen.csv", audits.SEEN)
     show, own = copy_of_clone(os.getcwd())
@@ -217,18 +216,18 @@ def programs(shows, tried):
 
 
 def top_of(page):
-    """The state and the findings on top of a page."""
+    """The state and the findings at the top of a page."""
     return page.partition("<header>")[2].partition("</header>")[0]
 
 
 def states_of(page):
-    """What stands in the frames on top: of each its kind, its mark and its words."""
+    """What is in the frames at the top: the kind, the mark and the words of each."""
     found = re.findall(r'<p class="state (\w+)"><span class="mark" aria-hidden="true">(.)</span>(.*)</p>', page)
     return [(kind, mark, " ".join(html.unescape(re.sub("<[^>]*>", "", text)).split())) for kind, mark, text in found]
 
 
 def sessions(shows, tried):
-    """A session is judged by the program, and green where the program ran the whole audit again."""
+    """The program judges a session, which is green if the program ran the whole audit again."""
     for name, text in [("ballots.raire", audits.BALLOTS), ("manifest.csv", audits.MANIFEST), ("assertions.json", audits.ASSERTIONS), ("seen.csv", audits.SEEN)]:
         audits.write(name, text)
     rounds, files = [audits.FIRST, audits.SECOND], ["ballots.raire", "manifest.csv", "assertions.json"]
@@ -276,7 +275,7 @@ def sessions(shows, tried):
 
 
 def promises(shows, tried):
-    """What follows from the assertions is said where a check has accepted them, or where no order stands and nothing was checked."""
+    """The page says what follows from the assertions if a check has accepted them, or if no order stands and nothing was checked."""
     row1, mayor, assembly = (os.path.join(TOP, "examples", f"{name}.raire") for name in ("row1", "mayor", "assembly"))
     found = [subprocess.run([shows.path, "search", name], capture_output=True, text=True, env=shows.given).stdout for name in (row1, mayor, assembly)]
     write("whole.json", found[0])
@@ -298,7 +297,7 @@ def promises(shows, tried):
 
 
 def trees(shows, tried, draws):
-    """What the tree counts set by set, and what it draws, is what all suffixes tell, one by one; also where assertions are missing."""
+    """What the tree counts set by set, and what it draws, is what all suffixes give, one by one, even if assertions are missing."""
     n = 2 + draws.below(5)
     ids = [f"C{c}" for c in range(n)]
     while True:
@@ -343,7 +342,7 @@ def branches_of(level):
 
 
 def by_sets(shows, tried):
-    """A landslide over small candidates, whose orders are too many to draw: its page is small, and quickly made."""
+    """A landslide over small candidates, with too many orders to draw: its page is small, and quickly made."""
     ballots, assertions = landslide(".")
     began = time.monotonic()
     status, page, err = shows.run(ballots, assertions, "--sets=4096")
@@ -369,7 +368,7 @@ def by_sets(shows, tried):
 
 
 def belonging(shows, tried):
-    """A ballot that names no card is told with both files and its record, whoever is asked."""
+    """If a ballot names no card, the page gives both files and the record, whichever program is asked."""
     write("1.raire", "2\nContest,6,2,1,2\nContest,7,2,1,2\n6,x_1,1\n\n7,b_1,1\n7,b_3,2\n7,b_2,2\n")
     write("2.csv", "batch,cards\nb,2\n")
     write("3.csv", "batch,cards\nb,3\n")
@@ -418,7 +417,7 @@ def seen_alone(shows, tried):
 
 
 def kinds(shows, tried):
-    """A file that is broken is told by the rules of what it was to be."""
+    """A broken file is judged by the rules of what it was meant to be."""
     for name, text, told in [
         ("a.csv", "batches,cards\nb,1\n", "M1 at 1"), ("a.csv", "Batch,Cards\nb,1\n", "M1 at 1"), ("a.csv", "batch;cards\nb;1\n", "M1 at 1"),
         ("a.csv", "cards,batch\n1,b\n", "M1 at 1"), ("a.csv", "b,1\nc,2\n", "M1 at 1"), ("a.csv", "1,60\n2,60\n", "M1 at 1"), ("a.csv", "id,size\nb,1\n", "M1 at 1"),
@@ -434,7 +433,7 @@ def kinds(shows, tried):
 # ---- the state of an audit
 
 def two_candidates(records, seen_of):
-    """An audit of 200 cards, with a record each: the files, and what is seen of the cards; `seen_of` tells it of a card's number and record."""
+    """Writes an audit of 200 cards with a record each: the files, and what is seen of the cards, which `seen_of` gives by a card's number and record."""
     write("ballots.raire", "1\nContest,7,2,1,2\n" + "".join(f"7,b_{k},{c}\n" for k, c in enumerate(records, 1)))
     write("manifest.csv", f"batch,cards\nb,{len(records)}\n")
     write("seen.csv", "".join(f"b_{k},ballot,{seen_of(k, c)}\n" for k, c in enumerate(records, 1)))
@@ -443,7 +442,7 @@ def two_candidates(records, seen_of):
 
 
 def go_on(files, name, draws, *terms):
-    """A session of so many rounds."""
+    """Writes a session with a round for each of these numbers of draws."""
     write(name, plain_audit.run(["open", *files, "--seed=1", *terms])[1])
     for number in draws:
         write(name, plain_audit.run(["audit", name, *files, "seen.csv", f"--draws={number}"])[1])
@@ -485,7 +484,7 @@ def states(shows, tried):
 
 
 def unusual(shows, tried, files):
-    """A limit and a gamma that few audits have are named, and the blanks of a seed are shown."""
+    """The page names a limit and a gamma that few audits have, and shows the blanks of a seed."""
     write("session.json", plain_audit.run(["open", *files, "--seed=2026  6 "])[1])
     page = shows.run("session.json")[1]
     blank = '<span class="blank"> </span>'
@@ -502,7 +501,7 @@ def unusual(shows, tried, files):
 
 
 def later(shows, tried):
-    """Signed off after 40 draws, and then gone on with, to cards that speak against it."""
+    """An audit that was signed off after 40 draws, and then continued, to cards that speak against it."""
     drawn = {plain_audit.drawn("1", k, 200) for k in range(1, 41)}
     files = two_candidates([1] * 150 + [2] * 50, lambda k, c: c if k in drawn else 2)
     go_on(files, "session.json", [40, 200])
@@ -519,7 +518,7 @@ def later(shows, tried):
 
 
 def bytes_of_sessions(shows, tried):
-    """A session of which a byte is another one than the program prints isn't called the same."""
+    """A session isn't called the same if one of its bytes differs from what the program prints."""
     files = two_candidates([1] * 150 + [2] * 50, lambda k, c: c)
     go_on(files, "session.json", [40])
     with open("session.json") as file:
@@ -549,7 +548,7 @@ def town_draws(name, *words):
 
 
 def clean_draws(shows, tried):
-    """The draws that an assertion file says, beside those of a plan; whether they are for the same terms."""
+    """The draws that an assertion file says are shown next to those of a plan, and so is whether they are for the same terms."""
     ballots, manifest = town_draws("said.json", "--cards=480")
     town_draws("far.json", "--cards=600", "--limit=100000")
     town_draws("none.json", "--cards=9000000", "--limit=1")
@@ -592,7 +591,7 @@ def clean_draws(shows, tried):
 # ---- a full count, cards, names, ties
 
 def counts(shows, tried):
-    """A full count is shown as what it is, beside the audit that led to it."""
+    """A full count is shown as what it is, next to the audit that led to it."""
     village = os.path.join(TOP, "examples", "village")
     files = [os.path.join(village, name) for name in sorted(os.listdir(village))]
     for words in (files, files[::-1]):
@@ -638,7 +637,7 @@ def counts(shows, tried):
 
 
 def whole_counts(shows, tried):
-    """A count is called full only with a ballot for each card, or for each record where there is no manifest."""
+    """A count is called full only if it has a ballot for each card, or for each record if there is no manifest."""
     write("m.csv", "batch,cards\nb,3\n")
     write("more.csv", "batch,cards\nb,402\nc,4998\n")
     for words, head in [
@@ -680,7 +679,7 @@ def pluralities(shows, tried):
 
 
 def changed(path, name, *pairs):
-    """A copy with other words in it."""
+    """A copy of a file with some words replaced."""
     with open(path) as file:
         text = file.read()
     for old, new in pairs:
@@ -772,7 +771,7 @@ def polls(shows, tried):
 
 
 def polls_of_each(shows, tried, files):
-    """A poll that looks after each draw: the page has the draw that confirms each assertion, as the program's lines have it."""
+    """A poll that looks after each draw: the page has the draw that confirms each assertion, as in the program's lines."""
     for words, head in [
         (["--draws=40", "--gamma=best"], "OPEN: not confirmed by a poll after 40 draws: "), (["--draws=300", "--gamma=best"], "CONFIRMED BY A POLL by draw "),
         (["--draws=300", "--gamma=2000", "--limit=300000"], "CONFIRMED BY A POLL by draw "), (["--draws=300"], "OPEN: not confirmed by a poll after 300 draws: "),
@@ -800,7 +799,7 @@ def polls_of_each(shows, tried, files):
 
 
 def refused_polls(shows, tried, files, terms):
-    """What the program refuses of a poll, and words that are no poll."""
+    """What the program refuses in a poll, and words that aren't those of a poll."""
     harbor_files = {name: os.path.join(TOP, "examples", "harbor", name) for name in ("ballots.raire", "session.json")}
     changed("seen.csv", "less.csv", ("H1_1,ballot", "H9_1,ballot"))
     write("one.csv", "H1_1,ballot\n")
@@ -826,7 +825,7 @@ def row_of(text, name):
 
 
 def counties(shows, tried):
-    """All contests of a file on one page: how each ends, its claims and its rounds; what is refused of them."""
+    """All contests of a file on one page: how each ends, its claims and its rounds; and what is refused."""
     files, terms = example("county"), [f"--seed={COUNTY_SEED}", "--draws=80"]
     status, page, err = shows.run(*files, *terms)
     text, found = (text_of(page), states_of(page)) if status == 0 else (err, [])
@@ -866,7 +865,7 @@ def write_county(cast, seen, cards=2):
     return ["ballots.raire", "manifest.csv", "seen.csv", "--seed=2024", "--draws=5"]
 
 
-# A program whose answer for all contests is prepared; the plain one is asked for the others.
+# A program whose answer for all contests is prepared; the plain program is asked for the other answers.
 SPENDS = """#!/usr/bin/env bash
 [ "$1" != contests ] || { cat told.txt; exit 10; }
 exec "$PLAIN" "$@"
@@ -874,7 +873,7 @@ exec "$PLAIN" "$@"
 
 
 def small_counties(shows, tried):
-    """All signed off; no cards left; nothing but ties; ids with blanks and marks; a search that is spent."""
+    """All signed off; no cards left; nothing but ties; ids with blanks and markup; a search that is out of budget."""
     words = write_county("7,b_1,1\n8,b_1,2\n", "b_1,7,ballot,1\nb_1,8,ballot,2\n", 1)
     page = shows.run(*words)[1]
     all_of = "ALL SIGNED OFF after 5 draws: 2 contests. Each assertion of these has a risk of at most 0.05."
@@ -906,7 +905,7 @@ def small_counties(shows, tried):
 
 
 def county_by_names(shows, tried, files, terms):
-    """The names of contests and candidates stand for ids in each row and in what it opens."""
+    """The names of contests and candidates replace ids in each row and in what it opens."""
     heads = plain_audit.contest_records(plain_audit.records_of(plain_audit.read(files[0])))
     lines = [f"{name},{c},{c} of {name.upper()}" for name, (ids, _) in heads.items() for c in ids]
     write("names.csv", "contest,id,name\n" + "".join(f"{name},,The {name} contest\n" for name in heads) + "".join(line + "\n" for line in lines))
@@ -938,7 +937,7 @@ def refused_counties(shows, tried, files, terms):
 
 
 def cards(shows, tried):
-    """Cards, records and the cards without a record stand on top, and a batch that no ballot names."""
+    """The top of the page has the cards, the records and the cards without a record, and a batch that no ballot names."""
     town = os.path.join(TOP, "examples", "town")
     ballots, manifest = (os.path.join(town, name) for name in ("ballots.raire", "manifest.csv"))
     text = text_of(shows.run(ballots, manifest)[1])
@@ -960,7 +959,7 @@ def cards(shows, tried):
 
 
 def names(shows, tried):
-    """Names stand for ids everywhere."""
+    """Names replace ids everywhere."""
     ids = {"c-one": "Zoë Œil", "c-two": "Lee, Ann", "c-three": "<b>Ray</b>"}
     write("names.csv", "id,name\n" + "".join(f'{c},"{name}"\n' for c, name in ids.items()))
     one, two, three = ids
@@ -1035,7 +1034,7 @@ exit "$(cat status.txt)"
 """
 
 
-# A program whose tabulation is spent.
+# A program whose tabulation is out of budget.
 NO_ROUNDS = """#!/usr/bin/env bash
 [ "$1" != tabulate ] || { printf 'spent\\ncandidate 1\\norder 2,1\\nmargin 1\\n'; exit 4; }
 exec "$PROGRAM" "$@"
@@ -1043,7 +1042,7 @@ exec "$PROGRAM" "$@"
 
 
 def ties(shows, tried):
-    """A tie is told, and whether it matters."""
+    """The page reports a tie, and whether it matters."""
     write("ballots.raire", "1\nContest,7,4,a,b,c d,e=1 f=2\n7,b_1,a\n")
     write_program("prepared", PREPARED)
     prepared = os.path.abspath("prepared")
@@ -1082,7 +1081,7 @@ def ties(shows, tried):
 # ---- numbers
 
 def numbers(shows, tried, draws):
-    """A page of a generated audit has the numbers of the program's own texts, also where the assertion file says draws."""
+    """A page of a generated audit has the numbers of the program's own texts, even if the assertion file says draws."""
     audits.Made(draws, may_be_many=True)
     if plain_audit.run(["search", "ballots.raire"])[0] != 0:
         status, page, _ = shows.run("ballots.raire")
@@ -1169,7 +1168,7 @@ def poll_numbers(shows, tried, draws):
 
 
 def see_poll_row(tried, line, row, limit):
-    """The row has the line's claim, counts, risk and state, and its bar ends before the limit just where the claim is confirmed."""
+    """The row has the line's claim, counts, risk and state, and its bar ends before the limit exactly if the claim is confirmed."""
     kind, winner, loser, *_ = line.split(" ")
     counts, risk, state = re.fullmatch(r".* counts (\d+ \d+ \d+) risk (\S+) (\w+)", line).groups()
     text = " ".join(html.unescape(re.sub("<[^>]*>", " ", row)).split())
@@ -1196,12 +1195,12 @@ def short(risk):
 # ---- looks
 
 def browsers():
-    """Those that are there, each of which can lay out a page without a screen."""
+    """Those browsers that are installed, each of which can lay out a page without a screen."""
     return list(filter(None, map(shutil.which, BROWSERS)))
 
 
 def laid_out(browser, path, page, *flags):
-    """What a page's script tells in the element #found once it is laid out, or None."""
+    """What a page's script writes in the element #found once the page is laid out, or None."""
     write(path, page)
     ran = subprocess.run([browser, *FLAGS, *flags, "--virtual-time-budget=3000", "--dump-dom", f"file://{os.path.abspath(path)}"], capture_output=True, text=True, timeout=300)
     told = re.search(r'<pre id="found">(.*?)</pre>', ran.stdout, re.DOTALL)
@@ -1218,7 +1217,7 @@ def as_printed(page):
 
 
 def look(browser, page, name, folder, keep):
-    """What is wrong with the page in one look of it."""
+    """What is wrong with one look of the page."""
     width, medium, is_dark = LOOKS[name]
     page = as_printed(page) if medium == "print" else page
     path, colours = os.path.join(folder, f"{name}.html"), f"--blink-settings=preferredColorScheme={0 if is_dark else 1}"
@@ -1285,7 +1284,7 @@ def looks(shows, tried, folder, keep):
 
 
 def without_browser(tried):
-    """Where none is there or can be had, .ci/page says so and fails."""
+    """If no browser is installed or can be installed, .ci/page says so and fails."""
     os.mkdir("bin")
     for name in ("bash", "dirname", "head", "id", "env"):
         os.symlink(shutil.which(name), os.path.join("bin", name))
@@ -1302,7 +1301,7 @@ LEE = {("Lee",): 125_000, ("Wong",): 102_000, ("Tan", "Wong"): 30_000}
 
 
 def generated_bars(draws):
-    """Ballots of a few kinds, of some of which there are many."""
+    """Ballots of a few kinds, some of which have many ballots."""
     ids = [f"C{c}" for c in range(2 + draws.below(6))]
     kinds = {}
     for _ in range(1 + draws.below(9)):
@@ -1312,7 +1311,7 @@ def generated_bars(draws):
 
 
 def bars(shows, tried, draws, count):
-    """On each page all bars have one scale: what is drawn of each number is as wide as it is large."""
+    """On each page all bars have one scale: the width drawn for each number is proportional to it."""
     def made(contest):
         (ids, kinds), name = contest, f"{threading.get_ident()}.raire"
         cast = (ranking for ranking, times in kinds.items() for _ in range(times))
@@ -1337,7 +1336,7 @@ def bars(shows, tried, draws, count):
 
 
 def off_scale(rows):
-    """The rows of a page that are drawn wider or narrower than the largest number's scale wants, by half a pixel."""
+    """The rows of a page that are drawn wider or narrower than the largest number's scale requires, by more than half a pixel."""
     largest = max(rows, key=lambda row: row["votes"], default=None)
     if not largest or not largest["votes"]:
         return []
@@ -1359,7 +1358,7 @@ def gone_on_with():
 
 
 def most_candidates(shows, folder):
-    """As many candidates as may be, with long names; the lowest have as many votes as each other."""
+    """As many candidates as there may be, with long names; the lowest have equal numbers of votes."""
     ids = [f"c{c}" for c in range(1, MOST_CANDIDATES + 1)]
     cast = [c for place, c in enumerate(ids) for _ in range(max(0, place - 1) ** 2)]
     ballots, assertions, named = (os.path.join(folder, name) for name in ("most.raire", "most.json", "names.csv"))
@@ -1371,7 +1370,7 @@ def most_candidates(shows, folder):
 
 
 def names_that_are_none(folder):
-    """Candidates whose ids are marks, as long as ids may be, or have blanks and equals signs."""
+    """Candidates whose ids are markup, are as long as ids may be, or have blanks and equals signs."""
     ids = ["<script>alert(1)</script>", "W" * 64, "a=1 b=2", "&amp; 'it' <b>"]
     rows = [["1"], ["Contest", "<i>9</i>", "4", *ids]]
     for number in range(40):
@@ -1398,7 +1397,7 @@ def many_candidates(folder):
 
 
 def landslide(folder):
-    """A contest of 12 candidates that one of them leads by far. Each set of the others may come last: 2,047 of them."""
+    """A contest of 12 candidates, one of whom leads by far. Each set of the others may come last: 2,047 of them."""
     ballots, assertions = os.path.join(HERE, "cases", "sets_landslide", "ballots.raire"), os.path.join(folder, "landslide.json")
     write(assertions, plain_audit.run(["search", ballots, "--sets=4096"])[1])
     return ballots, assertions

@@ -1,10 +1,11 @@
 #!/usr/bin/env python3
 """Tries what ./raire show says of the fewest NENs, and how long its pages of 16 nearly equal candidates take to open.
 
-acceptance/page_fewest.py PROGRAM [CONTESTS] makes so many contests of 2 to 6 candidates, 200 if no number is given. For the file of a search for the fewest NENs, and for any
-other file that has no more NENs than plain_fewest.py finds there have to be, as many orders are found; for other files none. By the definitions alone no true NEB of the file's
-margin refutes any of them, and no true NEN of that margin two. Then the pages of a few files are made and read. Last a browser opens pages of 16 nearly equal candidates, each within
-two seconds, and unfolds all that is folded. With a folder as third word the pictures are left there.
+acceptance/page_fewest.py PROGRAM [CONTESTS [FOLDER]] makes CONTESTS contests of 2 to 6 candidates (200 by default). For the file of a search for the fewest
+NENs, and for any other file that has no more NENs than plain_fewest.py finds necessary, as many orders as NENs are found; for other files none. By the
+definitions, no true NEB of the file's margin refutes any of these orders, and no true NEN of that margin refutes two. Then the pages of a few files are
+made and read. Last a browser opens pages of 16 nearly equal candidates, each within two seconds, and unfolds everything that is folded. If there is a
+FOLDER, the pictures are kept in it.
 """
 import base64
 import itertools
@@ -35,7 +36,7 @@ SAID = "No NEN can be spared: "
 
 
 def searched(shows, ballots, name, *words):
-    """An assertion file that a search prints; None where it prints none."""
+    """An assertion file that a search prints, or None if it prints none."""
     ran = subprocess.run([shows.given["PROGRAM"], "search", ballots, *words], capture_output=True, text=True)
     if ran.returncode:
         return None
@@ -51,7 +52,7 @@ def nens_in(file):
 
 
 def true_assertions(contest, least):
-    """All of at least this margin."""
+    """All true assertions of at least this margin."""
     for w, l in itertools.permutations(range(contest.n), 2):
         others = [c for c in range(contest.n) if c not in (w, l)]
         rests = (frozenset((w, l, *more)) for size in range(contest.n - 1) for more in itertools.combinations(others, size))
@@ -59,7 +60,7 @@ def true_assertions(contest, least):
 
 
 def wrong_with(contest, file, orders):
-    """What the definitions say against orders that are said to need a NEN each."""
+    """How the definitions contradict the claim that these orders need a NEN each, or None."""
     if any(sorted(order) != list(range(contest.n)) or contest.ids[order[-1]] == file["winner"] for order in orders):
         return "one of them doesn't elect another candidate"
     for assertion in true_assertions(contest, file["margin"]):
@@ -83,7 +84,7 @@ def small_contests(shows, tried, draws, count):
 
 
 def see_orders(tried, contest, file):
-    """Whether orders were found."""
+    """Sees whether orders are found exactly if they should be, and returns whether they are."""
     orders = apart.found(contest.ids, contest.rankings, file) if apart.may_be_found(file) else None
     are_fewest = nens_in(file) == plain_fewest.found(contest).nens > 0
     tried.see("orders are found if the NENs are the fewest, and only then", bool(orders) == are_fewest, (file, orders))
@@ -100,7 +101,7 @@ def see_orders(tried, contest, file):
 
 
 def nearly_equal(n, ballots, start=""):
-    """Each candidate is ranked as often as any other, on ballots of up to n ranks."""
+    """A contest on whose ballots, of up to n ranks, every candidate is equally likely to be ranked."""
     draws, path = Draws(n), f"near{n}.raire"
     with open(path, "w") as file:
         file.write(f"{start}1\nContest,near,{n},{','.join(f'Candidate {c + 1}' for c in range(n))}\n")
@@ -112,7 +113,7 @@ def nearly_equal(n, ballots, start=""):
 
 
 def pages(shows, tried):
-    """What the page says, and where it says nothing of it."""
+    """What the page says, and when it says nothing of it."""
     ballots = nearly_equal(6, 2000)
     file = searched(shows, ballots, "fewest.json", "--fewest")
     searched(shows, ballots, "certificate.json")
@@ -145,7 +146,7 @@ def pages(shows, tried):
 
 
 def many_candidates(shows, tried):
-    """More candidates than orders are looked for."""
+    """A contest with more candidates than the page looks for orders of."""
     n = apart.MOST_CANDIDATES + 1
     compare.write("many.raire", [f"C{c}" for c in range(n)], compare.contest_of(Draws(n), n, 3000))
     file = searched(shows, "many.raire", "many.json", "--fewest")

@@ -1,11 +1,10 @@
 #!/usr/bin/env python3
-"""Ballot files of some MiB, which come to a search in many pieces, against a plain reading of each record.
+"""Ballot files of some MiB, which reach a search in many pieces, compared with a plain reading of each record.
 
-acceptance/parts.py PROGRAM [FILES] makes so many files, 80 if no number is given: with ids that are counted up, shuffled, of several
-forms or without a common front, with line ends of three kinds, blank lines and a second contest. In most of them one record is broken, or
-repeats the id of one that stands anywhere before it; some have a double quote, a byte order mark or an id once more in the other
-contest, which breaks nothing. By 1, 2, 3 and 8 workers a search has to refuse the file by the rule that a plain reading finds
-first and at its record, or else to print the same. The last line says how many agreed.
+acceptance/parts.py PROGRAM [FILES] makes FILES files (80 by default): with ids that are counted up, shuffled, of several forms or without a common start,
+with line ends of three kinds, blank lines and a second contest. In most of them one record is broken, or repeats the id of any earlier record. Some have a
+double quote, a byte order mark or an id that is also in the other contest, which breaks nothing. With 1, 2, 3 and 8 workers a search must refuse the file
+by the rule that a plain reading finds first, and at its record; otherwise it must print the same. The last line says how many agreed.
 """
 import os
 import subprocess
@@ -24,7 +23,7 @@ KINDS = ("whole", "id again", "id again", "id again", "id in the other contest",
 
 
 def ids(draws, kind, number):
-    """So many ids, all different."""
+    """The ids of this many ballots, all different."""
     if kind == "counted up":
         return [b"ballot_%d" % (k + 1) for k in range(number)]
     if kind == "of batches":
@@ -39,7 +38,7 @@ def ids(draws, kind, number):
 
 
 def records_of(draws, number):
-    """The records of a file, the first of a ballot being number 4."""
+    """The records of a file; the first record of a ballot is number 4."""
     names = ids(draws, ("counted up", "of batches", "without a common front", "shuffled")[draws.below(4)], number)
     made = []
     for name in names:

@@ -1,4 +1,4 @@
-"""Puts `plain/` on the path. Each check imports this first."""
+"""Puts `plain/` on the path. Each check imports this module first."""
 import os
 import sys
 

@@ -1,7 +1,6 @@
-"""Exports of cast vote records counted plainly and apart from office/: each file is read whole, each ballot by the rules of docs/help/convert.txt.
+"""Counts exports of cast vote records plainly, independently of office/. Each file is read whole, and each ballot by the rules of docs/help/convert.txt.
 
-`counted` gives of each contest, by its key, what its candidates are called, and who is ranked on each card; write-ins that are merged are
-called WRITE_IN.
+`counted` gives for each contest, by its key, the names of its candidates and who is ranked on each card; write-ins that are merged are called WRITE_IN.
 """
 import csv
 import io
@@ -16,7 +15,7 @@ DEFAULTS = {"overvotes": "end", "skips": "pass", "repeats": "pass", "write_ins":
 
 
 def ranked(places, rules):
-    """Who is ranked, by what stands at each rank: a set of names; a write-in is a pair of WRITE_IN and its field."""
+    """Who is ranked, by what is marked at each rank: a set of names; a write-in is a pair of WRITE_IN and its field."""
     words = [OVERVOTE if len(place) > 1 else next(iter(place), NOBODY) for place in places]
     while words and words[-1] == NOBODY:
         words.pop()
@@ -45,7 +44,7 @@ def put(marks, rank, name):
 
 
 def whole(paths):
-    """The name and the bytes of each file that is named, of each folder, of each zip."""
+    """The name and the bytes of each file that is named, or that is in a folder or a zip that is named."""
     for path in paths:
         if os.path.isdir(path):
             yield from whole(os.path.join(path, name) for name in os.listdir(path))
@@ -114,7 +113,7 @@ def nist(paths, rules, made_of):
 
 
 def of_xml(node):
-    """A report in XML as its JSON has it."""
+    """A report in XML, in the form that its JSON has."""
     below = [each for each in node.childNodes if each.nodeType == each.ELEMENT_NODE]
     if not below and not node.hasAttribute("ObjectId"):
         text = "".join(each.data for each in node.childNodes)
@@ -221,7 +220,7 @@ def rctab(paths, rules, made_of):
 
 
 def chosen(paths, write_ins):
-    """Of each contest of Dominion's JSON that isn't ranked: its seats, the names of its candidates, and who is chosen on each card."""
+    """For each contest of Dominion's JSON that isn't ranked: its seats, the names of its candidates, and who is chosen on each card."""
     files = {name: json.loads(data.decode("utf-8-sig")) for name, data in whole(paths)}
     contests = {}
     for each in files["ContestManifest.json"]["List"]:
@@ -252,7 +251,7 @@ def sheets(paths):
 
 
 def meant(cell, rank):
-    """What a cell stands for."""
+    """What a cell means."""
     if cell.lower() in ("", "undervote", "skipped"):
         return set()
     if cell.lower() == "overvote":

@@ -1,11 +1,11 @@
 #!/usr/bin/env python3
 """Compares assertion files of version 2, which say the clean draws of each assertion, with the plain programs.
 
-acceptance/plans.py PROGRAM [CONTESTS] first goes through searches and checks that were worked out by hand. Then it makes so many contests, 500 if
-no number is given, of 2 to 6 candidates, now and then of 21 to 32 with few strong ones, and searches each for a number of cards, a limit and a gamma.
-What is printed has to be that of plain_audit.py, but for the draws what a search without cards prints, and to have the draws that a plan says; it is
-accepted by a check, opened, trimmed and polled as the file of version 1 is. Then draws are changed by hand, and cards, limit and gamma: each
-answer is that of plain_audit.py. The last line says how many commands were as they should be.
+acceptance/plans.py PROGRAM [CONTESTS] first goes through searches and checks that were worked out by hand. Then it makes CONTESTS contests (500 by default)
+of 2 to 6 candidates, now and then of 21 to 32 with few strong ones, and searches each for a number of cards, a limit and a gamma. What is printed must be
+what plain_audit.py prints. Apart from the draws it must be what a search without cards prints, and its draws must be those of a plan. It is checked,
+opened, trimmed and polled in the same way as the file of version 1. Then draws, cards, limit and gamma are changed: each answer is that of plain_audit.py.
+The last line says how many commands were as they should be.
 """
 import json
 import multiprocessing
@@ -33,7 +33,7 @@ YES = lines("yes", "assertions 1", "margin 5")
 
 
 def put(*changes):
-    """What is printed, each text in it replaced by the one behind it."""
+    """What is printed, with each text replaced by the text after it."""
     text = PLANNED
     for old, new in zip(changes[::2], changes[1::2]):
         assert text.count(old) == 1, old
@@ -72,7 +72,7 @@ REFUSED = [
     (put(CARDS, '"cards":4', '"order":["1","2"]', '"order":["1"]'), "F5 at 0"), (put(CARDS, '"cards":4', DRAWS, ""), "F6 at 0"),
 ]
 
-# further words of a search for cards, which is none
+# extra words that make a search for cards bad words
 BAD_WORDS = [
     "--limit 50000", "--gamma 100", "--limit=50000 --gamma=100", "--cards 0", f"--cards {MOST_CARDS + 1}", "--cards", "--cards=", "--cards x", "--cards 5 --cards 5",
     "--cards 5 --limit 0", f"--cards 5 --limit {GREATEST_LIMIT + 1}", "--cards 5 --gamma 0", f"--cards 5 --gamma {GREATEST_GAMMA + 1}", "--cards 5 --draws 5",
@@ -110,7 +110,7 @@ def by_hand(runs):
 
 
 def rounded(runs):
-    """Draws of which the exact risk is within the limit, and the printed one isn't, since each step is rounded up: one draw more is needed."""
+    """Draws with an exact risk within the limit, while the printed risk isn't, since each step is rounded up: one more draw is needed."""
     write("rounded.raire", FIVE[:FIVE.index("1,b_1")] + lines(*(f"1,b_{k},1" for k in range(1, 48))))
     status, text, _ = runs.run("search rounded.raire --cards 104236 --limit 1".split())
     runs.see("a draw more than by the exact risk", status == 0 and '"draws":73527,' in text, text)
@@ -121,13 +121,13 @@ def rounded(runs):
 PLANNED_AS_1 = put(DRAWS, "", f"{CARDS},", "", f"{GAMMA},", "", f"{LIMIT},", "", VERSION, '"version":1')
 
 
-# ---- contests that are made
+# ---- contests that are generated
 
 FILES = "ballots.raire", "planned.json"
 
 
 def terms_of(draws, records):
-    """Cards, now and then too few for the records, or as many as may be; and words for a limit and a gamma, or none."""
+    """A number of cards, now and then too few for the records, or as many as there may be; and words for a limit and a gamma, or none."""
     cards = one_of(draws, [max(1, records - 1), records, records + draws.below(50), records + draws.below(50), 10 * records, 1000 * records, MOST_CARDS])
     words = [f"--cards={cards}"]
     if draws.below(2):
@@ -151,13 +151,13 @@ def write_manifest(cards):
 
 
 def planned_draws(text):
-    """The draws of each assertion that the lines of a plan say, as version 2 has them."""
+    """The draws of each assertion in the lines of a plan, as version 2 has them."""
     told = [line.rpartition(": ")[2] for line in text.splitlines()[:-1]]
     return [None if each == "full count" else int(each.removesuffix(" draws")) for each in told]
 
 
 def contest(runs, draws, is_large):
-    """A contest with its ballots, searched for some cards."""
+    """A contest with its ballots, searched for some number of cards."""
     n = compare.many_of(draws) if is_large else 2 + draws.below(5)
     ids = [str(11 + c) for c in range(n)]
     rankings = compare.few_strong(draws, n) if is_large else compare.contest_of(draws, n, 5 + draws.below(100))
@@ -178,7 +178,7 @@ def contest(runs, draws, is_large):
 
 
 def whole(runs, draws, text, cards, terms, is_linked, is_large):
-    """What is printed, given to all commands that read it, as the file of version 1 beside it."""
+    """Gives what is printed to all commands that read it, and compares with the file of version 1."""
     write("planned.json", text)
     value = json.loads(text)
     runs.see("a check says yes", runs.run(["check", *FILES])[0] == 0, text)
@@ -194,7 +194,7 @@ def whole(runs, draws, text, cards, terms, is_linked, is_large):
 
 
 def trimmed(runs):
-    """Both versions are trimmed alike, and what is printed is of the version that was read."""
+    """Both versions are trimmed alike, and what is printed has the version that was read."""
     (status, text, _), (status_1, text_1, _) = (runs.run(["trim", "ballots.raire", name]) for name in ("planned.json", "found.json"))
     runs.see("a trim keeps the version", status == status_1 and (status != 0 or without_plan(text) == text_1), text)
     if status == 0:
@@ -204,7 +204,7 @@ def trimmed(runs):
 
 
 def opened(runs, draws, records):
-    """An audit is opened with either version, and a poll is the same of both."""
+    """An audit is opened with either version, and a poll is the same with both."""
     write("manifest.csv", f"batch,cards\nb,{records}\n")
     words = ["--seed=7"] + [f"--limit={1 + draws.below(400_000)}"] * draws.below(2)
     sessions = [runs.run(["open", "ballots.raire", "manifest.csv", name, *words])[1] for name in ("planned.json", "found.json")]
@@ -221,7 +221,7 @@ def opened(runs, draws, records):
 
 
 def changed(runs, draws, text):
-    """Draws that were changed by hand are refused, the first of them; other members too, where they change the draws."""
+    """A check refuses draws that were changed, at the first of them; it also refuses other members if changing them changes the draws."""
     value = json.loads(text)
     claims = value["assertions"]
     for _ in range(3):
@@ -276,7 +276,7 @@ CHANGES = [
 
 
 class Runs(audits.Runs):
-    """Runs whose answers have to agree with each other too."""
+    """Runs whose answers must also agree with each other."""
 
     def see(self, shows, holds, told=""):
         if not holds:
@@ -284,7 +284,7 @@ class Runs(audits.Runs):
 
 
 def made(job):
-    """The runs of so many contests, made from one number."""
+    """The runs of `count` contests, made from one number."""
     program, number, count = job
     runs, draws = Runs(program), Draws(number)
     for at in range(count):

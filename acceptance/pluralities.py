@@ -1,11 +1,10 @@
 #!/usr/bin/env python3
 """Whole audits of plurality contests, from the count of first preferences to the report, compared with plain_audit.py.
 
-acceptance/pluralities.py PROGRAM [AUDITS] first goes through audits that were worked out by hand. Then it makes so many
-others, 500 if no number is given, as audits.py makes its own: other contests beside the one that is meant, cards without a
-ballot, cards that are missing or read otherwise, and in most of them something that is damaged. Some sessions are given to
-`audit` too, and sessions of assertions to `plurality`. Each command is run by plain_audit.py and by the program: status and
-both texts have to agree. The last line says how many commands did.
+acceptance/pluralities.py PROGRAM [AUDITS] first goes through audits that were worked out by hand. Then it makes AUDITS others (500 by default), as
+audits.py makes its own: with other contests in the same file, cards without a ballot, cards that are missing or read otherwise, and in most of them
+something damaged. Some sessions are also given to `audit`, and some sessions of assertions to `plurality`. Each command is run by plain_audit.py and by the
+program: the status and both texts must agree. The last line says how many commands were run, and how many of them disagreed.
 """
 import json
 import multiprocessing
@@ -37,7 +36,7 @@ def session_with(margins, cards, rounds, is_signed_off, **others):
 
 
 def first_preferences(runs):
-    """Five, four and three first preferences, though the runoff goes to the second; the same with as many for two."""
+    """Five, four and three first preferences, though the runoff goes to the second candidate; and the same with ties."""
     write("manifest.csv", "batch,cards\nt,12\n")
     for firsts, wanted in [
         ([5, 4, 3], None), ([4, 4, 4], "tie\nround 1\ntied 1,2,3\ntally 4\n"), ([2, 5, 5], "tie\nround 1\ntied 2,3\ntally 5\n"),
@@ -49,7 +48,7 @@ def first_preferences(runs):
 
 
 def one_card(runs):
-    """The audit of one card, round by round, and what is refused of it."""
+    """The audit of one card, round by round, and what is refused in it."""
     write("ballots.raire", audits.BALLOTS)
     write("manifest.csv", audits.MANIFEST)
     write("assertions.json", audits.ASSERTIONS)
@@ -78,7 +77,7 @@ def one_card(runs):
 
 
 def tied_session(runs):
-    """A session by hand of ballots that are tied: the tie is told before anything is said of its margins."""
+    """A session made by hand for tied ballots: the tie is reported before anything is said of its margins."""
     write("ballots.raire", "1\nContest,7,2,1,2\n7,b_1,1\n7,b_2,2\n")
     write("manifest.csv", "batch,cards\nb,2\n")
     write("seen.csv", "none_1,missing\n")
@@ -91,7 +90,7 @@ def tied_session(runs):
 
 
 def words(runs):
-    """Lines of neither form: options of the other one, and other numbers of files."""
+    """Lines of neither form, with options of the other one, or other numbers of files."""
     for line in (
         "plurality", "plurality a --seed 1", "plurality a b", "plurality a b --seed 1 --draws 5", "plurality a b --draws 5", "plurality a b c --seed 1",
         "plurality a b c d", "plurality a b c d --seed 1", "plurality a b c d --draws 5 --limit 1", "plurality a b c d e --draws 5",
@@ -100,13 +99,13 @@ def words(runs):
         runs.row(line, (1, "", "raire: bad words\n"))
 
 
-# ---- audits that are made
+# ---- audits that are generated
 
 DAMAGES = [damage for damage in audits.DAMAGES if damage[0] != "assertions.json"]
 
 
 def audit(runs, draws):
-    """One audit; the damage comes before one of its commands."""
+    """Runs one audit; the damage comes before one of its commands."""
     contest = audits.Made(draws, may_have_two=True, may_be_many=True).contest_words()
     options = [f"--gamma={1 + draws.below(500)}"] if draws.below(3) == 0 else []
     limits = options + ([f"--limit={1 + draws.below(400_000)}"] if draws.below(2) else [])
@@ -132,7 +131,7 @@ def audit(runs, draws):
 
 
 def exchanged(runs, draws, contest, had):
-    """The session is given to an audit of assertions, and one of assertions to that of the plurality contest."""
+    """Gives the session to an audit of assertions, and a session of assertions to the audit of the plurality contest."""
     status, text, _ = runs.run(["search", "ballots.raire", *contest])
     if status != 0:
         return
@@ -147,7 +146,7 @@ def exchanged(runs, draws, contest, had):
 
 
 def made(job):
-    """The runs of so many audits, made from one number."""
+    """The runs of `count` audits, made from one number."""
     program, number, count = job
     runs, draws = audits.Runs(program), Draws(number)
     for _ in range(count):

@@ -2,8 +2,8 @@
 """Tries ./raire plan --poll: the draws after which half of all polls, and nine in ten, confirm.
 
 acceptance/poll_plans.py PROGRAM compares its shares with all sequences of a few draws, and with polls that are simulated by plain_poll.py; its numbers for
-two candidates with those of an earlier simulation; its gammas with those of the plain poll. Then it tries the lines and what is refused, and the script
-./raire. The last line says how many came out as they should.
+two candidates with those of an earlier simulation; and its gammas with those of the plain poll. Then it tries the lines that are printed, what is refused,
+and the script ./raire. The last line says how many came out as they should.
 """
 import itertools
 import json
@@ -25,8 +25,8 @@ from limits import GREATEST_EACH_GAMMA, GREATEST_LIMIT  # noqa: E402
 
 TOOL = os.path.join(places.TOP, "tools", "office", "plan_poll.py")
 LIMIT = 50_000
-CARDS = 10_000  # of a contest of two candidates, each card for one of them
-# by percent: the draws after which half, and nine in ten, of at most 200 seeds confirmed, simulated apart from this program
+CARDS = 10_000  # in a contest of two candidates, each card for one of them
+# by percent: the draws after which half, and nine in ten, of at most 200 seeds confirmed, simulated independently of this program
 SIMULATED = {2: (11_168, 31_562), 5: (1_943, 5_572), 10: (464, 1_240), 20: (119, 310), 30: (50, 128), 40: (30, 75)}
 
 
@@ -42,7 +42,7 @@ def fitted(percent):
 # ---- the counts
 
 def table():
-    """The numbers of the earlier simulation, whose seeds were few: nine in ten of them is a late draw of 20 polls or less."""
+    """The numbers of the earlier simulation. It had few seeds: its number for nine in ten is a late draw of at most 20 polls."""
     for percent, (half, nine) in SIMULATED.items():
         poll = poll_of()
         poll.most = 40_000
@@ -52,7 +52,7 @@ def table():
 
 
 def of_all_sequences(shares, limit, gamma, draws):
-    """The share of all sequences of so many draws that are confirmed, one after the other; of a draw the shares with the values 0, 1 and 2."""
+    """The share of all sequences of this many draws that are confirmed, counted one by one. `shares` are the shares of a draw with the values 0, 1 and 2."""
     confirmed = 0.0
     for values in itertools.product((0, 1, 2), repeat=draws):
         if plain_poll.end_of(values, limit, gamma)[2]:
@@ -61,7 +61,7 @@ def of_all_sequences(shares, limit, gamma, draws):
 
 
 def sequences():
-    """Shares of a few draws are those of all sequences."""
+    """The shares for a few draws are those of all sequences."""
     for cards, recorded, margin, limit, gamma in (
         (10, 10, 6, 50_000, 125), (10, 10, 10, 50_000, 1), (10, 8, 4, 200_000, 750), (10, 9, 5, 300_000, 500), (12, 7, 7, 600_000, 250),
         (100, 60, 20, 700_000, 2_000), (9, 9, 1, 900_000, 4_000), (10, 10, 2, 999_999, 100), (10, 6, 4, 360_000, 250), (10, 10, 8, 216_000, 250),
@@ -75,7 +75,7 @@ def sequences():
 
 
 def simulated(draws, share, limit, gamma, polls, seed):
-    """How many polls are confirmed within so many draws, step by step of the printed risk; the share of each draw that speaks for the assertion."""
+    """How many polls are confirmed within this many draws, step by step of the printed risk. `share` is the share of draws that speak for the assertion."""
     source, confirmed = random.Random(seed), 0
     for _ in range(polls):
         units = plain_poll.UNIT
@@ -88,7 +88,7 @@ def simulated(draws, share, limit, gamma, polls, seed):
 
 
 def is_near(count, polls, share):
-    """Less than one of 10,000 such counts is further away."""
+    """Fewer than one in 10,000 such counts are further away."""
     return abs(count - polls * share) <= 4 * math.sqrt(polls * share * (1 - share)) + 1
 
 
@@ -127,7 +127,7 @@ def numbers():
 
 
 def several():
-    """All assertions take no fewer draws than one of them; and as many as are said, however their cards go together."""
+    """All assertions take at least as many draws as one of them. The plan's numbers are enough, however their cards are combined."""
     poll = poll_of(1_000, 1_000)
     margins = [200, 200, 260, 400]
     claims = [(margin, plan_poll.best_gamma(1_000, margin)) for margin in margins]
@@ -138,7 +138,7 @@ def several():
     for seed in range(4):
         source = random.Random(seed)
         values = [[2] * ((1_000 + margin) // 2) + [0] * ((1_000 - margin) // 2) for margin in margins]
-        for each in values[seed:]:  # with 0 all cards go together in each way, and with 3 nearly all agree
+        for each in values[seed:]:  # with 0, the cards are combined in any way; with 3, nearly all agree
             source.shuffle(each)
         for share, draws in ((0.5, half), (0.9, nine)):
             drawn = [[source.randrange(1_000) for _ in range(draws)] for _ in range(500)]
@@ -201,7 +201,7 @@ def lines():
 
 
 def by_the_script(program):
-    """./raire plan is the program's own without --poll, and where it is a file behind --."""
+    """./raire plan is the program's own without --poll, and if --poll is a file after --."""
     walk.write_stand_in(program, "raire")
     own = ran("plan", "m.csv", "one.json", program=program)
     yield "without --poll", ran("plan", "m.csv", "one.json", program="./raire") == own and own[0] == 0

@@ -1,11 +1,11 @@
 #!/usr/bin/env python3
 """Compares ballot polls of the built program with the plain poll.
 
-acceptance/polls.py PROGRAM [POLLS] [SEEDS] first goes through polls that were worked out by hand. Then it makes so many others, 1,000 if no
-number is given, half of them with a look after each draw: assertions of a contest of 2 to 5 candidates, now and then of 21 to 32, a manifest, and what was
-seen of the cards; in half of them something is damaged. Status and both texts have to agree with plain_poll.py, and each risk that is printed has to be at
-least the exact one, and no more than its roundings above it. Last come contests whose cards elect another candidate than the assertions prove, or could by
-breaking a tie: of so many seeds each, 2,000 if no number is given, few may confirm them, at whichever draw; with a look after each draw at four gammas.
+acceptance/polls.py PROGRAM [POLLS] [SEEDS] first goes through polls that were worked out by hand. Then it makes POLLS others (1,000 by default), half of
+them with a look after each draw: assertions of a contest of 2 to 5 candidates, now and then of 21 to 32, a manifest, and what was seen of the cards; in
+half of them something is damaged. The status and both texts must agree with plain_poll.py. Each risk that is printed must be at least the exact one, and
+may exceed it only by its roundings. Last come contests whose cards elect another candidate than the assertions prove, or could do so by the way a tie is
+broken. Of SEEDS seeds for each (2,000 by default), few may confirm the assertions, at whichever draw; with a look after each draw, at four gammas.
 """
 import collections
 import json
@@ -70,7 +70,7 @@ def one_card(runs):
     runs.row(f"{POLL} 0", (1, "", "raire: bad words\n"))
 
 
-# ---- polls that are made
+# ---- polls that are generated
 
 DAMAGES = [audits.damage_seen] * 4 + [audits.damage_assertions] * 3 + [
     audits.damage_bytes(name) for name in ("manifest.csv", "assertions.json", "seen.csv")
@@ -90,12 +90,12 @@ def options_of(draws):
 
 
 def gamma_of(draws, is_each):
-    """A gamma, and with the flag also a larger one, or the one that fits."""
+    """A gamma; with the flag, possibly a larger one, or the one that fits."""
     return one_of(draws, ["best", str(1 + draws.below(10_000)), str(1 + draws.below(1_000_000))]) if is_each else str(1 + draws.below(500))
 
 
 def poll(runs, draws):
-    """A poll by the assertions of a contest's records, of which it sees nothing itself."""
+    """A poll with the assertions of a contest's records; the poll itself doesn't see these records."""
     audits.Made(draws, may_be_many=True)
     status, found, _ = plain_audit.run(["search", "ballots.raire"])
     if status != 0:
@@ -115,7 +115,8 @@ def draws_in(words):
 
 
 def are_right(text, draws):
-    """The counts are of all draws. No risk is below the exact one or one, nor above it by more than a unit a draw, raised by the draws with 0."""
+    """The counts are of all draws. Each risk is at least the exact risk or 1, whichever is smaller, and at most a unit a draw above that, scaled by the
+    draws with 0."""
     head, *claims = text.splitlines()[3:-1]
     gamma = int(head.removeprefix("gamma "))
     for line in claims:
@@ -128,7 +129,7 @@ def are_right(text, draws):
 
 
 def are_each_right(text, draws):
-    """The counts are of the draws up to the one that confirms, or of all. No risk is below the exact one, or one that stays is above a million."""
+    """The counts are of the draws up to the one that confirms, or of all. No risk is below the exact one, unless it is above a million and stays."""
     for line in text.splitlines()[7:-1]:
         told = re.fullmatch(r".* gamma (\d+) counts (\d+) (\d+) (\d+) risk ([\d.]+) (?:confirmed (\d+)|unconfirmed)", line)
         gamma, *counts = map(int, told.groups()[:4])
@@ -150,8 +151,8 @@ def made_polls(job):
 
 # ---- cards that elect another candidate
 
-# The candidates, the rankings of the cards, and assertions that prove 1; then the limit and gamma of the polls. All of them but the
-# third are ties, which can be broken otherwise: so no cards are nearer to the assertions.
+# The candidates, the rankings of the cards, and assertions that prove 1; then the limit and gamma of the polls. All but the third are ties, which can be
+# broken in another way: so no cards are nearer to the assertions.
 TWO = [("NEB", "1", "2")]
 THREE = [("NEN", "1", "2", "12"), ("NEB", "1", "3"), ("NEB", "2", "3")]
 WRONG = {
@@ -163,12 +164,12 @@ WRONG = {
 }
 MOST_LOOKED_AT = 300
 
-# with a look after each draw, the gammas of each of them
+# the gammas that are used with a look after each draw
 EACH_GAMMAS = 100, 500, 4_500, "best"
 
 
 def file_of(ids, claims):
-    """An assertion file that proves 1. Its margins are of nothing: a poll doesn't ask them."""
+    """An assertion file that proves 1. Its margins mean nothing, as a poll doesn't use them."""
     assertions = [{"kind": kind, "winner": w, "loser": l, "margin": 1, **({"rest": [*rest[0]]} if rest else {})} for kind, w, l, *rest in claims]
     return json.dumps({
         "assertions": assertions, "candidates": [*ids], "contest": "9", "margin": 1, "order": [c for c in ids if c != "2"] + ["2"], "records": 1,
@@ -177,7 +178,7 @@ def file_of(ids, claims):
 
 
 def write_wrong(ids, rankings, claims):
-    """The files of a poll of these cards, and what they come to for each assertion."""
+    """Writes the files of a poll of these cards, and returns the value of each card for each assertion."""
     write("manifest.csv", f"batch,cards\nb,{len(rankings)}\n")
     write("assertions.json", file_of(ids, claims))
     write("seen.csv", lines(*(",".join([f"b_{at}", "ballot", *ranking]) for at, ranking in enumerate(rankings, 1))))
@@ -186,7 +187,7 @@ def write_wrong(ids, rankings, claims):
 
 
 def seeds(job):
-    """Of seeds from one number to another, how many confirm the assertions at some draw; the program has to say so of that draw."""
+    """How many seeds from one number to another confirm the assertions at some draw; the program must say so at that draw."""
     program, shows, low, high = job
     ids, rankings, claims, limit, gamma = WRONG[shows]
     runs, confirmed = audits.Runs(program), []
@@ -207,7 +208,7 @@ def seeds(job):
 
 
 def each_seeds(job):
-    """The same with a look after each draw, for one gamma: a call a seed."""
+    """The same with a look after each draw, for one gamma, with one call for each seed."""
     program, shows, given, low, high = job
     ids, rankings, claims, limit, _ = WRONG[shows]
     gamma = plain_poll.best_gamma(len(rankings), 1) if given == "best" else given
@@ -229,7 +230,7 @@ def each_seeds(job):
 
 
 def most_of(count, limit):
-    """Where each of so many seeds confirms with a share of the limit, more than this come in less than one of 10,000 such tests."""
+    """If each of `count` seeds confirms with a probability of the limit, fewer than one in 10,000 such tests have more confirmations than this."""
     mean = count * limit / 10**6
     return math.floor(mean + 4 * math.sqrt(mean * (1 - limit / 10**6)))
 

@@ -1,9 +1,9 @@
 #!/usr/bin/python3
-"""Goes through every refusal of the office's tools: each one is provoked, and says the file, the place and what to do.
+"""Goes through every refusal of the office's tools: each one is provoked, and must say the file, the place and what to do.
 
-acceptance/refusals.py PROGRAM finds each place of tools/office at which a call is refused, runs the calls of bad_exports.py and bad_calls.py, and sees
-that each place is reached, that each line names its file and ends with what docs/faults.md says to do, and that no row of that page is for nothing.
-The last line says how many came out as they should.
+acceptance/refusals.py PROGRAM finds each place in tools/office at which a call is refused, and runs the calls of bad_exports.py and bad_calls.py. It checks
+that each place is reached, that each line names its file and ends with what docs/faults.md says to do, and that no row of that page is unused. The last
+line says how many came out as they should.
 """
 import ast
 import contextlib
@@ -22,7 +22,7 @@ sys.path.insert(0, OFFICE)
 
 import places  # noqa: E402, F401
 try:
-    import convert  # that of office/, as are the next ones
+    import convert  # the one in office/, as are the next ones
 except ImportError as missing:
     print(f"acceptance/refusals.py: NOT TRIED: {missing}; apt-get install python3-ijson python3-openpyxl")
     sys.exit(1)
@@ -48,9 +48,9 @@ import words  # noqa: E402
 
 TOOLS = {tool.NAME: tool for tool in (agree, batches, boxes, cards, export, import_claims, manifest, plan_poll, rounds_by_order)}
 RAISES = {"Refusal", "refused", "told", "Broken", "broken", "BadNames", "error", "no_xml"}
-HELPERS = {"refused", "told", "broken", "no_xml", "error"}  # what they are called with is looked at, and not they themselves
-NOT_AN_OFFICE = ("release.py",)  # for those who make releases; acceptance/release.py tries it
-UNREACHED = {  # what only a fault of the machine, of a library or of another program brings about
+HELPERS = {"refused", "told", "broken", "no_xml", "error"}  # the calls of these are looked at, and not what is in them
+NOT_AN_OFFICE = ("release.py",)  # for people who make releases; acceptance/release.py tries it
+UNREACHED = {  # what only a fault of the machine, of a library or of another program can cause
     "called.py: … doesn't begin with a line id,name or contest,id,name",  # of ./raire show; acceptance/page.py tries it
     "convert_seen.py: … | not comma-separated text: …",
     "ask.py: … | …: there is no program to ask", "convert_files.py: … | …: …: …",
@@ -62,7 +62,7 @@ REACHED = set()
 
 
 def noted(kind):
-    """Has each refusal of this kind tell the places of the code that lead to it."""
+    """Makes each refusal of this kind record the places in the code that lead to it."""
     plain = kind.__init__
 
     def told(self, *given):
@@ -81,7 +81,7 @@ def name_of(function):
 
 
 def text_of(node):
-    """The text that a call is given, with … for what it doesn't tell."""
+    """The text that a call is given, with … for what isn't known from the source."""
     if isinstance(node, ast.Constant):
         return str(node.value) if isinstance(node.value, str) else "…"
     if isinstance(node, ast.JoinedStr):
@@ -105,9 +105,9 @@ def sites():
 
 
 def called_so(tool, given):
-    """Status and both outputs of a call, made in this process.
+    """The status and both outputs of a call, made in this process.
 
-    Of its words, > PATH says where the output goes, RAIRE=PATH which program is asked, and MOST_RECORDS=N what a limit is.
+    Among its words, > PATH says where the output goes, RAIRE=PATH which program is asked, and MOST_RECORDS=N what a limit is.
     """
     err, to = io.StringIO(), next((word[2:] for word in given if word.startswith("> ")), None)
     program = next((word[6:] for word in given if word.startswith("RAIRE=")), os.environ["RAIRE"])
@@ -128,7 +128,7 @@ def called_so(tool, given):
 
 @contextlib.contextmanager
 def output(path):
-    """Standard output for a call, in memory, or that of the process where it is a file."""
+    """Standard output for a call: in memory, or the process's own output if it goes to a file."""
     if path is None:
         with contextlib.redirect_stdout(io.TextIOWrapper(io.BytesIO(), newline="")) as out:
             yield out
@@ -154,14 +154,14 @@ def status_of_named(given):
 
 
 def cases():
-    """The name of each call, the tool, its words, the status, and how its line goes on behind the tool's name."""
+    """The name of each call, the tool, its words, the status, and how its line continues after the tool's name."""
     for name, make in bad_exports.CASES.items():
         yield name, lambda folder, make=make: (convert.NAME, *make(folder))
     yield from bad_calls.CASES.items()
 
 
 def wrong_in(tool, status, told, got):
-    """What isn't as it should be of a line, or None."""
+    """What is wrong with a line, or None."""
     if got[0] != status or got[1] and status != what_to_do.TIE:
         return f"wanted status {status} and no text, got {got}"
     line = got[2].rstrip("\n")
@@ -175,7 +175,7 @@ def wrong_in(tool, status, told, got):
 
 
 def try_all():
-    """Each call, and what is wrong with what it says."""
+    """Runs each call, and yields what is wrong with what it says."""
     for name, make in cases():
         with tempfile.TemporaryDirectory() as place:
             folder = os.path.join(place, "in")

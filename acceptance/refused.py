@@ -1,10 +1,10 @@
 #!/usr/bin/env python3
-"""The built program where the C library refuses it memory, one growth at a time.
+"""The built program when the C library refuses it memory, one growth at a time.
 
-acceptance/refused.py PROGRAM runs each command that the program has. A library that is loaded before the C library counts
-the calls for memory from the start of the program on, and refuses one of them: the first, then the second, and so on,
-until runs meet none. Then it refuses all from the first on, from the second on, and so on. Each run has to end with status
-9 and nothing on standard output, or with the command's own status and texts. The last line says how many runs did.
+acceptance/refused.py PROGRAM runs each command that the program has. A library that is loaded before the C library counts the calls for memory from the
+start of the program, and refuses one of them: the first, then the second, and so on, until runs don't reach the refused call. Then it refuses all calls
+starting with the first, then all starting with the second, and so on. Each run must end with status 9 and nothing on standard output, or with the command's
+own status and texts. The last line says how many runs did.
 """
 import multiprocessing.pool
 import os
@@ -24,10 +24,10 @@ from limits import MOST_CANDIDATES
 
 TOP = os.path.dirname(os.path.dirname(os.path.abspath(__file__)))
 NONE = 2**63
-# So many runs one after the other that no growth was refused in: workers share their memory otherwise in each run.
+# The number of consecutive runs in which no growth was refused, after which a sweep ends: workers share their memory differently in each run.
 AT_LAST = 8
 
-# The calls from number REFUSED_FIRST to number REFUSED_LAST are refused. The first of them is told.
+# The calls from number REFUSED_FIRST to number REFUSED_LAST are refused. The first of them is reported.
 LIBRARY = r"""
 typedef __SIZE_TYPE__ size_t;
 void *__libc_malloc(size_t);
@@ -75,7 +75,7 @@ int posix_memalign(void **to, size_t align, size_t size) {
 }
 """
 
-# Of each command a line of words that has an answer, on the files of `hostile.good_files` and the examples.
+# For each command, a line of words that has an answer, on the files of `hostile.good_files` and the examples.
 LINES = {
     "search": ["search", "row1.raire"],
     "search of four": ["search", "county.raire"],
@@ -128,25 +128,25 @@ def built(folder):
     return library
 
 
-# What comes of a search that is spent by nodes, which the plain program doesn't tell.
+# The answer of a search that is out of budget by nodes, which the plain program doesn't give.
 SPENT = 4, "spent\ncandidate 3\norder 2,1,3\nmargin 1\n", ""
 
 
 class Sweep:
-    """Runs of one line, of which each has other growths refused."""
+    """Runs of one line, each with other growths refused."""
 
     def __init__(self, program, library, words):
         self.program, self.library, self.words = program, library, words
         self.own = self.run(NONE, NONE)[1]
 
     def is_plain(self):
-        """Whether what comes where no growth is refused is what the plain program says."""
+        """Whether the answer without a refused growth is what the plain program says."""
         is_told = self.own[0] == SPENT[0] and not any(word.startswith("--sets") for word in self.words)
         status, out, err = SPENT if is_told else plain_audit.run(self.words)
         return self.own == (status, out.encode(), err.encode())
 
     def run(self, first, last):
-        """Whether a growth was refused, and what came out."""
+        """Whether a growth was refused, and the answer."""
         read, write = os.pipe()
         names = {"LD_PRELOAD": self.library, "REFUSED_FIRST": str(first), "REFUSED_LAST": str(last), "REFUSED_TOLD": str(write)}
         try:
@@ -166,7 +166,7 @@ class Sweep:
         return came == self.own or (is_refused and came == (9, b"", b"raire: out of memory\n"))
 
     def all(self, pool, to_the_end):
-        """How many runs had a growth refused, and what came out wrong."""
+        """How many runs had a growth refused, and which answers are wrong."""
         refused, wrong, first, met_none = 0, [], 1, 0
         while met_none < AT_LAST:
             firsts = range(first, first + 64)

@@ -1,7 +1,7 @@
 #!/usr/bin/env python3
 """Tries ./raire release: made twice it has the same bytes, and the walks of README and docs/office.md run in what it unpacks to, on a path without `rt`.
 
-acceptance/release.py PROGRAM makes a release of this clone's commit with PROGRAM in it. The last line says how many things were as they should be.
+acceptance/release.py PROGRAM makes a release of this clone's commit with PROGRAM in it. The last line says how many checks passed.
 """
 import hashlib
 import os
@@ -18,7 +18,7 @@ TOP = os.path.dirname(os.path.dirname(os.path.abspath(__file__)))
 sys.dont_write_bytecode = True
 sys.path.insert(0, os.path.join(TOP, "tools", "office"))
 
-import release  # noqa: E402 (that of office/)
+import release  # noqa: E402 (the one in office/)
 from ask import Refusal  # noqa: E402
 
 PATH = "/usr/bin:/bin"
@@ -33,7 +33,7 @@ def ran(folder, *words):
 
 def made(program):
     with open(program, "rb") as file:
-        return release.made(release.Commit(), file.read(), KIT)[0]  # its package is tried by package.py
+        return release.made(release.Commit(), file.read(), KIT)[0]  # package.py tries its package
 
 
 def version():
@@ -42,7 +42,7 @@ def version():
 
 
 def as_packed(name, data):
-    """Names, times and modes in the archive depend on the commit alone."""
+    """Names, times and modes in the archive depend only on the commit."""
     commit, folder = release.Commit(), name.removesuffix(".tar.gz")
     yield "its name has the commit", name == f"raire-{version()}-{commit.name[:12]}-x86_64.tar.gz"
     with tempfile.NamedTemporaryFile(suffix=".tar.gz") as file:
@@ -97,7 +97,7 @@ def walks(folder):
 
 
 def scripts(folder):
-    """Each tool of the release prints its help, which is that of ./raire help."""
+    """Each tool of the release prints its help, the same as ./raire help."""
     for name in sorted(os.listdir(os.path.join(folder, "tools"))):
         if os.path.isfile(os.path.join(folder, "tools", name)):
             status, out, err = ran(folder, "./raire", name, "--help")
@@ -106,7 +106,7 @@ def scripts(folder):
 
 
 def by_the_script(folder):
-    """./raire release of a clone: what it refuses without a kit on the path, and of a folder that was changed."""
+    """Tries ./raire release of a clone: what it refuses without a kit on the path, and what it refuses about a changed folder."""
     clone = os.path.join(folder, "clone")
     yield "the clone is there", ran(folder, "git", "clone", "-q", TOP, clone)[0] == 0
     status, out, err = ran(clone, "./raire", "release")
@@ -123,7 +123,7 @@ def by_the_script(folder):
 
 
 def not_built_here(program, folder):
-    """A program that something else put in its place is used with a warning, told by ./raire version, and not released."""
+    """If something else put a program in place, it is used with a warning, ./raire version says so, and it isn't released."""
     clone, bin = os.path.join(folder, "clone"), os.path.join(folder, "bin")
     os.remove(os.path.join(clone, "another"))
     os.makedirs(os.path.dirname(os.path.join(clone, release.PROGRAM)))

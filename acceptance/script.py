@@ -1,9 +1,8 @@
 #!/usr/bin/env python3
-"""Tries the script ./raire: its help and that of the scripts beside it, what it says of bad words, and how it builds, with a stand-in for `rt`.
+"""Tries the script ./raire: its help and that of the scripts next to it, what it says of bad words, and how it builds, with a stand-in for `rt`.
 
-acceptance/script.py PROGRAM copies the script with crates.txt and docs/help to a folder of its own. There a stand-in
-notes what it is asked for, so that nothing is proved. The commands and links of README and docs/ are tried too. The
-last line says how many came out as they should.
+acceptance/script.py PROGRAM copies the script with crates.txt and docs/help to a folder of its own. There a stand-in records what it is asked for, so that
+nothing is proved. The commands and links of README and docs/ are tried too. The last line says how many came out as they should.
 """
 import os
 import re
@@ -15,9 +14,9 @@ import time
 
 TOP = os.path.dirname(os.path.dirname(os.path.abspath(__file__)))
 TOOLS = [name for name in sorted(os.listdir(os.path.join(TOP, "tools"))) if os.path.exists(os.path.join(TOP, "docs", "help", f"{name}.txt"))]
-TAKE_OTHER_FILES = set(TOOLS) - {"boxes", "show"}  # lines of these on the pages may name files of the reader's own
+TAKE_OTHER_FILES = set(TOOLS) - {"boxes", "show"}  # lines with these on the pages may name the reader's own files
 
-# Notes what it is asked for, tells crates as `rt ci` does, refuses one of them, and makes a program that refuses one word.
+# Records what it is asked for, reports crates as `rt ci` does, refuses one of them, and makes a program that refuses one word.
 STAND_IN = """#!/usr/bin/env bash
 [ "$1" != version ] || { echo "a kit"; exit 0; }
 echo "$* over $(ls crates | wc -l), $(find . -name must-fail | wc -l) with wrong bodies" >>"$NOTES"
@@ -40,7 +39,7 @@ chmod +x crates/raire/out/raire
 
 
 def crates():
-    """Each crate with those of the repository that it stands on."""
+    """Each crate, with the crates of the repository that it depends on."""
     with open(os.path.join(TOP, "crates.txt")) as file:
         lines = [line.split(":") for line in file if ":" in line and not line.startswith("#")]
     names = {line[0].split()[0] for line in lines}
@@ -90,7 +89,7 @@ class Copy:
 
 
 def helps(copy):
-    """Help is the page of docs/help, and asks for no program."""
+    """Help is the page of docs/help, and needs no program."""
     pages = os.path.join(TOP, "docs", "help")
     for page in sorted(os.listdir(pages)):
         with open(os.path.join(pages, page)) as file:
@@ -150,7 +149,7 @@ def builds(copy):
 
 
 def minutes_left():
-    """What is told of the time that is left, by a clock of the test's own: at the pace of what is done, and nothing of a crate that was kept."""
+    """The time that is left, by the test's own clock: it is reported at the pace of what is done, and not for a crate that was kept."""
     sys.path.insert(0, os.path.join(TOP, "tools", "build"))
     import build as builder
 
@@ -180,12 +179,12 @@ def places_of(path):
 
 
 def is_ignored(name):
-    """Whether a file of this name, made in the folder, leaves `git status` as it was; so `--version` doesn't say `changed`."""
+    """Whether a file of this name in the folder leaves `git status` as it was, so that `--version` doesn't say `changed`."""
     return not os.path.exists(os.path.join(TOP, ".git")) or subprocess.run(["git", "check-ignore", "-q", name], cwd=TOP).returncode == 0
 
 
 def pictures_are_drawn():
-    """What a script of docs/ writes into a page is what stands there."""
+    """What a script of docs/ writes into a page is what the page has."""
     for name in sorted(os.listdir(os.path.join(TOP, "docs"))):
         if name.endswith(".py"):
             ran = subprocess.run([os.path.join(TOP, "docs", name), "--check"], capture_output=True, text=True)
@@ -193,7 +192,7 @@ def pictures_are_drawn():
 
 
 def pages_are_true():
-    """Each command that README and docs/ show works where it is typed, and each link leads somewhere. Paths that are gone are told."""
+    """Each command that README and docs/ show works where it is typed, and each link leads somewhere. Paths that no longer exist are reported."""
     pages = ["README.md", "CONTRIBUTING.md"] + [os.path.join("docs", name) for name in sorted(os.listdir(os.path.join(TOP, "docs")))]
     for page in pages:
         if not page.endswith(".md"):
@@ -222,7 +221,7 @@ def pages_are_true():
 
 
 def scripts_tell_their_help(folder):
-    """Each tool prints its page, also where Python has none of the libraries; what wants one says so."""
+    """Each tool prints its page, even if Python has none of the libraries; a tool that needs one says so."""
     for library in ("ijson", "jinja2", "openpyxl"):
         with open(os.path.join(folder, f"{library}.py"), "w") as file:
             file.write("raise ImportError\n")
@@ -241,7 +240,7 @@ def scripts_tell_their_help(folder):
 
 
 def options_are_told(program):
-    """Each command has a page, and each option of a page is one of the command."""
+    """Each command has a page, and each option of a page is an option of the command."""
     pages = os.path.join(TOP, "docs", "help")
     for page in sorted(os.listdir(pages)):
         command = page[: -len(".txt")]
@@ -253,7 +252,7 @@ def options_are_told(program):
             values = {"ID": "1", "N": "2", "N|best": "best", "SEED": "1"}
             words = [values.get(word, word if word == command or word.startswith("-") else "no_such_file") for word in head if word != "|"]
             lines = [words]
-            if {"--sets", "--nodes"} <= set(head):  # the one takes the place of the other
+            if {"--sets", "--nodes"} <= set(head):  # one takes the place of the other
                 ran = subprocess.run([program, *words], capture_output=True, text=True)
                 yield f"the line {' '.join(words)} isn't one: it has both budgets", ran.returncode == 1
                 lines = [words[:at] + words[at + 2:] for at in map(words.index, ("--nodes", "--sets"))]

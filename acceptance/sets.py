@@ -1,12 +1,12 @@
 #!/usr/bin/env python3
 """Compares searches, checks and trims by `--sets` with those by `--nodes` and with plain_sets.py.
 
-acceptance/sets.py PROGRAM [CONTESTS] makes so many contests of 2 to 9 candidates, 2,000 if no number is given. With sets for all of them a
-search has to print what it prints with all nodes, byte for byte, at one worker and at eight; with as many sets as count it does too, and
-with one fewer it is spent. A check of what is printed says yes with just as many sets as its search counted for the assertions; without
-one of the assertions, and with few sets, it says what plain.py does, and so does a trim. Then a tenth as many contests of 10 to 20
-candidates are made as they occur: each has to be answered with the most sets there may be, and checked; those of up to 13 candidates, or with few
-assertions, are compared with plain_sets.py. The last line says how many agreed.
+acceptance/sets.py PROGRAM [CONTESTS] makes CONTESTS contests of 2 to 9 candidates (2,000 by default). With sets for all of them, a search must print what
+it prints with all nodes, byte for byte, at one worker and at eight. With as many sets as count it must do so too, and with one fewer it must be out of
+budget. A check of what is printed says yes with exactly as many sets as its search counted for the assertions. Without one of the assertions, and with few
+sets, it says what plain.py does, and so does a trim. Then a tenth as many contests of 10 to 20 candidates are made as they occur in practice. Each must be
+answered with the maximum number of sets, and checked; those of up to 13 candidates, or with few assertions, are compared with plain_sets.py. The last line
+says how many agreed.
 """
 import json
 import multiprocessing.pool
@@ -24,12 +24,12 @@ import plain_trim
 from draws import Draws
 from limits import MOST_NODES, MOST_SETS, MOST_WORKERS
 
-ALL = 512  # never spent up to nine candidates: there are 2^9 sets of them
+ALL = 512  # always enough for up to nine candidates, who have 2^9 sets
 MOST_LARGE, MOST_COMPARED, MOST_TRIMMED = 20, 13, 5  # candidates
-FEW = 100  # assertions, of whose contest any number of candidates is compared
+FEW = 100  # assertions; a contest with at most this many is compared for any number of candidates
 
-# How often each candidate is ranked, and up to how many candidates such a contest is made: a file of assertions about more has a length that
-# no command reads.
+# How often each candidate is ranked, and the largest number of candidates for a contest of this kind: with more, the file of its assertions is so long that
+# no command reads it.
 KINDS = {
     "each less often than the one before": (20, lambda n: [max(1, int(1000 * 0.75**c)) for c in range(n)]),
     "few strong": (20, lambda n: [1000 - 150 * c for c in range(4)] + [10] * (n - 4)),
@@ -40,7 +40,7 @@ KINDS = {
 
 
 def ranking_of(draws, weights, most):
-    """Up to so many candidates, each next one drawn by its weight."""
+    """A ranking of at most this many candidates, each drawn by its weight among those that are left."""
     left, ranking = dict(enumerate(weights)), []
     for _ in range(min(1 + draws.below(most), len(weights))):
         at = draws.below(sum(left.values()))
@@ -64,7 +64,7 @@ def write(path, text):
 
 
 class Contest:
-    """A contest in a file of its own, and how the program's answers about it differ from what is wanted."""
+    """A contest in a file of its own, and how the program's answers about it differ from what is expected."""
 
     def __init__(self, program, folder, number, rankings, n):
         self.program, self.number, self.draws = program, number, Draws(number)
@@ -83,13 +83,13 @@ class Contest:
         return self.see(wanted, "search", self.ballots, f"--sets={sets}", *more)
 
     def judge(self, value, sets):
-        """A check of such a file, by the plain program."""
+        """A check of this file, compared with the plain program."""
         text = json.dumps(value)
         write(self.assertions, text)
         self.see(plain.judge(self.contest, text.encode(), plain.Sets(sets)), "check", self.ballots, self.assertions, f"--sets={sets}")
 
     def small(self):
-        """One of few candidates: by nodes, by plain_sets.py, and as many sets as count, or one fewer."""
+        """A contest of few candidates: by nodes, by plain_sets.py, and with as many sets as count, or one fewer."""
         more = [f"--floor={1 + self.draws.below(12)}"] if self.draws.below(4) == 0 else []
         by_nodes = ran(self.program, "search", self.ballots, f"--nodes={MOST_NODES}", "--workers=1", *more)
         for workers in (1, MOST_WORKERS):
@@ -118,7 +118,7 @@ class Contest:
             self.see(wanted, "trim", self.ballots, self.assertions, f"--sets={sets}")
 
     def large(self):
-        """One of many candidates, which has to be answered and checked."""
+        """A contest of many candidates, which must be answered and checked."""
         status, text, err = ran(self.program, "search", self.ballots, f"--sets={MOST_SETS}")
         is_compared = self.contest.n <= MOST_COMPARED or (status == 0 and text.count('"kind"') <= FEW)
         if is_compared and (status, text) != plain_sets.searched(self.contest, MOST_SETS):
@@ -140,7 +140,7 @@ class Contest:
 
 
 def small_ones(draws, count):
-    """Of up to six candidates most of them, a few of which many tie."""
+    """Contests, most of them of up to six candidates; many of the contests tie."""
     for number in range(count):
         n = 2 + number % 5 if number % 10 else 7 + number // 10 % 3
         yield compare.contest_of(draws, n, 1 + draws.below(12) if number % 4 == 0 else 20 + draws.below(100)), n

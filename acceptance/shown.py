@@ -1,8 +1,8 @@
 #!/usr/bin/env python3
-"""Tries what ./raire shows on a terminal while the program or a tool of the office runs, by pseudo terminals.
+"""Tries what ./raire shows on a terminal while the program or a tool of the office runs, with pseudo terminals.
 
-acceptance/shown.py PROGRAM has a stand-in sleep and print, and looks at every byte that the terminal and the files get, at the status and at what
-is left on the terminal's last line; by Ctrl-C too. Closed pipes and full disks are tried with PROGRAM. The last line says how many came out as they should.
+acceptance/shown.py PROGRAM has a stand-in sleep and print. It looks at every byte that the terminal and the files get, at the status and at what is left on
+the terminal's last line, and also tries Ctrl-C. Closed pipes and full disks are tried with PROGRAM. The last line says how many came out as they should.
 """
 import contextlib
 import fcntl
@@ -18,7 +18,7 @@ import time
 import places  # noqa: F401
 import walk
 
-SLOW = 3.3  # seconds, of which the last one or so has the line
+SLOW = 3.3  # seconds; the line is there for about the last one
 PATIENCE = 600
 STAND_IN = """#!/bin/bash
 [ "$1" != slow ] || sleep {seconds}
@@ -27,7 +27,7 @@ printf 'one\\ntwo\\n'
 exit 3
 """
 OF_TOOLS = rb"\r\x1b\[\?7lraire: (?:convert|agree|boxes) [^\r\n]*: [0-9]+ s, [0-9]+ MB(?:, ([0-9]+) percent of [^\r\n]* read)?; Ctrl-C stops it\x1b\[K\x1b\[\?7h"
-EXPORTED = 500_000  # cards of an export that takes some seconds
+EXPORTED = 500_000  # cards of an export that takes a few seconds
 LINE = rb"\r\x1b\[\?7lraire: slow[^\r\n]*: [0-9]+ s, [0-9]+ MB; Ctrl-C stops it\x1b\[K\x1b\[\?7h"
 GONE = b"\r\x1b[K"
 OUT, ERR, STATUS = b"one\ntwo\n", b"raire: a refusal\n", 3
@@ -35,7 +35,7 @@ OUT, ERR, STATUS = b"one\ntwo\n", b"raire: a refusal\n", 3
 
 @contextlib.contextmanager
 def terminal():
-    """Both ends of a pseudo terminal that passes bytes on as they are, and knows Ctrl-C."""
+    """Both ends of a pseudo terminal that passes bytes on unchanged, and knows Ctrl-C."""
     own, other = os.openpty()
     modes = termios.tcgetattr(other)
     modes[1] &= ~termios.OPOST
@@ -56,7 +56,8 @@ def take_terminal():
 
 
 def ran(words, out=None, err=None, press=None, line=LINE, **given):
-    """Status, all that the terminal got, and the seconds. `out` and `err` are files in place of the terminal; Ctrl-C is pressed once the line is there."""
+    """The status, everything that the terminal got, and the seconds. `out` and `err` are files that replace the terminal; Ctrl-C is pressed once the line
+    is there."""
     with terminal() as (own, other):
         env = {**{name: value for name, value in os.environ.items() if name not in ("RAIRE_QUIET", "RAIRE")}, "TERM": "xterm", **given}
         start = time.monotonic()
@@ -67,7 +68,7 @@ def ran(words, out=None, err=None, press=None, line=LINE, **given):
             if select.select([own], [], [], 0.1)[0]:
                 try:
                     data = os.read(own, 65536)
-                except OSError:  # the other end was closed by all
+                except OSError:  # all have closed the other end
                     break
                 got += data
                 if press and re.search(line, got):
@@ -90,7 +91,7 @@ class Tried:
 
 
 def is_shown(got, then, line=LINE):
-    """The line, once or more, then nothing of it, then these bytes."""
+    """Whether the terminal got the line, once or more, then nothing of it, then these bytes."""
     return re.fullmatch(b"(?:" + line + b")+" + re.escape(GONE + then), got) is not None
 
 
@@ -153,7 +154,7 @@ def tools(tried, folder):
 
 
 def stopped(tried, script, folder):
-    """By Ctrl-C the script ends as by its signal, at once, and the program with it."""
+    """Ctrl-C ends the script at once, as its signal does, and ends the program with it."""
     path = os.path.join(folder, "out")
     for is_file in (False, True):
         with open(path, "wb") as file:
@@ -165,7 +166,7 @@ def stopped(tried, script, folder):
 
 
 def failing_outputs(tried, script, program):
-    """With a terminal for its standard error it ends as the program does, and says as much."""
+    """With a terminal for its standard error, the script ends as the program does, and says the same."""
     words = ["search", os.path.join(walk.TOP, "examples", "five_ballots.raire")]
     for name in ("full", "closed"):
         results = []

@@ -1,4 +1,4 @@
-"""A Slurm of two nodes on the loopback of this machine, begun and ended by a test: munged, slurmctld and two slurmd of the distribution."""
+"""A Slurm cluster of two nodes on this machine's loopback, which a test starts and ends: the distribution's munged, slurmctld and two slurmd."""
 import contextlib
 import os
 import re
@@ -47,7 +47,7 @@ PartitionName=all Nodes={names} Default=YES MaxTime=INFINITE State=UP
 
 
 def missing():
-    """The programs that aren't here."""
+    """The programs that aren't installed."""
     path = os.environ.get("PATH", "") + ":/usr/sbin:/sbin"
     return [name for name in PROGRAMS if not shutil.which(name, path=path)]
 
@@ -76,7 +76,7 @@ def parent_that_keeps_jobs(number):
 
 
 class Slurm:
-    """To be used in a `with`; `given` is the environment in which sbatch finds it."""
+    """A cluster, for use in a `with`; `given` is the environment in which sbatch finds it."""
 
     def __init__(self, folder):
         self.folder, self.ran = folder, []
@@ -149,7 +149,7 @@ class Slurm:
                     yield int(number)
 
     def kill(self, job):
-        """Kills all processes of a job, once it has some; whether it had."""
+        """Kills all processes of a job once it has some, and returns whether it had any."""
         numbers, end = [], time.monotonic() + SECONDS
         while not numbers and self.end_of(job)[0] == "RUNNING" and time.monotonic() < end:
             numbers = list(self.processes("SLURM_JOB_ID", job))
@@ -157,7 +157,7 @@ class Slurm:
         return bool(numbers)
 
     def lose(self, node):
-        """Kills a node's slurmd with all that runs there, as if the machine went down; the jobs that it had."""
+        """Kills a node's slurmd and everything that runs there, as if the machine went down, and returns the jobs that it had."""
         jobs = self.jobs(f"--nodelist={node}")
         self.nodes[node].kill()
         numbers = list(self.processes("SLURMD_NODENAME", node))
@@ -166,7 +166,7 @@ class Slurm:
         return jobs
 
     def told(self):
-        """The last line of each log."""
+        """The last lines of each log."""
         lines = []
         for name in os.listdir(self.folder):
             if name.endswith(".log"):
@@ -175,7 +175,7 @@ class Slurm:
         return "; ".join(lines)
 
     def __exit__(self, *_):
-        """Ends the jobs, then what was started, the last one first."""
+        """Ends the jobs, then what was started, in reverse order."""
         with contextlib.suppress(OSError, subprocess.TimeoutExpired):
             subprocess.run(["scancel", "--signal=KILL", "--full", "--user=root"], env=self.given, capture_output=True, timeout=10)
         for ran in reversed(self.ran):

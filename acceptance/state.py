@@ -1,11 +1,11 @@
 #!/usr/bin/env python3
-"""Tries ./raire state: on the processors of this machine, and on a Slurm of two nodes that this script begins and ends.
+"""Tries ./raire state: on the processors of this machine, and on a Slurm cluster of two nodes that this script starts and ends.
 
-acceptance/state.py PROGRAM [CONTESTS [COUNTIES [INSTANTS]]] first goes through a small state by hand: each output is compared with the same command
-typed, and refused files and tables with their lines. Then come programs that answer by each status. Then it makes a state, of 24 contests in 8 counties
-if no number is given, runs it, runs a copy that is killed at 4 instants and cut off, and one on Slurm, where a job is cancelled, another one is killed,
-and a node is lost: the digests have to be the same, and what was whole isn't made anew. The last line says how many things were as they should be. Where
-Snakemake or Slurm isn't here, what needs it isn't tried, and a line says so.
+acceptance/state.py PROGRAM [CONTESTS [COUNTIES [INSTANTS]]] first goes through a small state that was made by hand: each output is compared with the same
+command typed, and refused files and tables with their lines. Then come programs that answer with each status. Then it makes a state (24 contests in 8
+counties by default). It runs the state, runs a copy that is killed at INSTANTS instants (4 by default) and cut off, and runs a copy on Slurm, where one job
+is cancelled, another is killed, and a node is lost. The digests must be the same, and what was whole isn't made again. The last line says how many checks
+passed. If Snakemake or Slurm isn't installed, what needs it isn't tried, and a line says so.
 """
 import os
 import re
@@ -22,7 +22,7 @@ from state_answers import by_status
 from state_ended import cut_off, on_slurm
 from state_folder import CALL, copy_of, put, read, rows, times, TOP, Tried
 
-JOBS = 25  # about this many on Slurm, each with three contests or more
+JOBS = 25  # about this many on Slurm, each with three or more contests
 COUNTY_SEED, TOWN_SEED = "2026-11-03 dice 5 1 4 4 2 6 3 1", "2026-11-03 dice 2 6 1 4 5 5 3 1"
 TERMS = f"""\
 county,contest,audit,limit,gamma,seed,draws,trim,floor,nodes,sets
@@ -116,7 +116,7 @@ def decoded(link):
 
 
 def without_asked(page):
-    """A page without the list of what was asked, whose words may have another order."""
+    """A page without the list of what was asked, since its words may be in another order."""
     return re.sub(rb"<li><code>.*?</li>\n", b"", re.sub(rb"<div><dt>.*?</div>\n", b"", page))
 
 
@@ -165,7 +165,7 @@ BAD_TERMS = [
 
 
 def refused(tried, folder):
-    """Tables and words that are no good; files that the program refuses, which fail alone and are mended."""
+    """Bad tables and words; and files that the program refuses, which fail without the others and are then repaired."""
     for text, line in BAD_TERMS:
         put(folder, "terms.csv", text=text)
         status, out, err = tried.run(folder)
@@ -206,10 +206,10 @@ def refused(tried, folder):
     tried.see("a file that isn't there fails", status == 1 and "status 12: raire: counties/town/manifest.csv: no such file" in err, err)
 
 
-# ---- a state that is made, cut off and on Slurm
+# ---- a state that is generated, cut off and on Slurm
 
 def pages(tried, folder):
-    """A county with a contest whose file was found by sets, and is accepted by more nodes than a page has by itself."""
+    """A county with a contest whose file was found by sets, and is accepted with more nodes than a page uses by default."""
     made_state.write_state(folder, 5, 1, first=10, audits=("session",))
     status, out, err = tried.run(folder)
     found = rows(folder)

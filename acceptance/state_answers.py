@@ -1,4 +1,4 @@
-"""A state whose program answers by each status: which of them are results, and which fail with the line that says why."""
+"""A state whose program answers with each status: which answers are results, and which fail with the line that says why."""
 import os
 
 from state_folder import put, rows
@@ -9,7 +9,7 @@ TERMS = f"county,audit,seed,draws,trim\n*,session,{SEED},40 90,yes\n"
 TOO_LONG = 64 * 1024 * 1024 + 1
 MANY = 300_000  # ballots
 
-# Passes its words on to the program. Of a county that is called HARM_of_COMMAND it harms this command.
+# Passes its words on to the program. For a county called HARM_of_COMMAND it harms this command.
 STAND_IN = """\
 #!/usr/bin/python3
 import os, re, resource, subprocess, sys, time
@@ -55,7 +55,7 @@ RESULTS = {
     "spent_of_open": ("spent", "open: spent, "),
     "spent_of_audit": ("spent", "audit 40: spent, "),
 }
-# How the line of the contest goes on behind its name; {} is the county's folder.
+# How the line of the contest continues after its name; {} is the county's folder.
 FAILURES = {
     "bad_manifest": "plan: status 2: raire: {}/manifest.csv: M1 at 1; ", "read_fault": "plan: status 7: raire: {}/manifest.csv: read fault; ",
     "full_disk_of_check": "check --sets=1048576: status 8: an output could not be written",
@@ -67,7 +67,7 @@ ASLEEP = "asleep_of_search"
 
 
 def write(folder, program, counties):
-    """The county of a town for each name; the program that harms them."""
+    """Writes the town's county once for each name, and the program that harms them."""
     put(folder, "terms.csv", text=TERMS)
     put(folder, "stand_in", text=STAND_IN.format(program=program))
     os.chmod(os.path.join(folder, "stand_in"), 0o755)

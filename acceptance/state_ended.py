@@ -1,4 +1,4 @@
-"""A state of which processes, jobs and nodes are ended in the middle, and outputs cut off."""
+"""A state whose processes, jobs and nodes are ended in the middle, and whose outputs are cut off."""
 import contextlib
 import hashlib
 import os
@@ -14,7 +14,7 @@ PAUSE = 0.02
 
 
 def processes(session):
-    """What each process of a session was called with, by its number."""
+    """The words with which each process of a session was called, by its number."""
     found = {}
     for name in filter(str.isdigit, os.listdir("/proc")):
         with contextlib.suppress(OSError):
@@ -25,7 +25,7 @@ def processes(session):
 
 
 def kill(session, word=b"", most=None):
-    """The number of processes of a session that were killed: those whose words have this one."""
+    """Kills the processes of a session whose words contain this one, and returns how many were killed."""
     numbers = [number for number, words in processes(session).items() if word in words][:most]
     for number in numbers:
         with contextlib.suppress(ProcessLookupError):
@@ -38,19 +38,19 @@ def kill_everything(tried, folder, session):
 
 
 def kill_snakemake(tried, folder, session):
-    """./raire state then ends its jobs."""
+    """Kills Snakemake; ./raire state then ends its jobs."""
     return kill(session, b"--snakefile")
 
 
 def kill_job(tried, folder, session):
-    """A job, and a little later all others."""
+    """Kills a job, and a little later all others."""
     count = kill(session, b"job.py", 1)
     time.sleep(0.3)
     return count and kill(session)
 
 
 def kill_caller(tried, folder, session):
-    """First ./raire state alone, whose Snakemake goes on and keeps the folder; then that, and the next run begins while its jobs still run."""
+    """First kills only ./raire state, whose Snakemake continues and keeps the folder; then Snakemake, so that the next run begins while its jobs still run."""
     os.kill(session, signal.SIGKILL)
     if any(b"--snakefile" in words for words in processes(session).values()):
         status, out, err = tried.run(folder, "--without-pages")
@@ -70,10 +70,10 @@ class Killed:
         self.count = sum(path.startswith(("made/contests/", "made/counties/")) for path in wanted)
 
     def once(self, way, count):
-        """Begins it, and kills it once `count` outputs are there; then each of them has to be whole."""
+        """Starts the run, and kills it once `count` outputs are there; then each of them must be whole."""
         with subprocess.Popen(self.words, stdout=subprocess.DEVNULL, stderr=subprocess.DEVNULL, env=self.tried.given(), start_new_session=True) as begun:
             killed = False
-            while begun.poll() is None and not killed:  # what is to be killed may not have begun yet
+            while begun.poll() is None and not killed:  # what is to be killed may not have started yet
                 time.sleep(PAUSE)
                 killed = len(whole(self.folder)) >= count and way(self.tried, self.folder, begun.pid)
             self.killed += bool(killed)
@@ -101,13 +101,13 @@ class Killed:
 
 
 def cut_off(tried, folder, digests, group, instants):
-    """Killed at some instants, each time in another way; then outputs are cut off by hand, and it is begun again."""
+    """Kills a run at some instants, each time in another way; then cuts outputs off by hand, and starts it again."""
     wanted = {path: digest for digest, _, path in (line.partition("  ") for line in digests.decode().splitlines())}
     words = tried.words(folder, "--group", group, "--without-pages")
     run = Killed(tried, folder, words, wanted)
     for at in range(instants):
         run.once(WAYS[at % len(WAYS)], run.count * (at + 1) // (instants + 4))
-    # A busy machine may have made everything before the kill is done, but not each time.
+    # A busy machine may have made everything before the kill is done, but not every time.
     tried.see("it was killed at each instant, in the middle", run.killed == instants and run.kept and run.amid > instants // 2, (run.killed, run.amid, len(run.kept)))
     time.sleep(1)  # a job of the last run ends
     run.kept = whole(folder)
@@ -147,7 +147,7 @@ def running(cluster, begun, count):
 
 
 def harmed(tried, folder, digests, group, cluster):
-    """A job is cancelled, another one is killed, and a node is lost with all that runs there. Their jobs are begun again, and no other."""
+    """A job is cancelled, another is killed, and a node is lost with everything that runs there. These jobs are started again, and no others."""
     words, node = tried.words(folder, "--profile", "slurm", "--group", group, "--without-pages"), slurm.NODES[-1]
     start = time.monotonic()
     given = tried.given(cluster.given.items())

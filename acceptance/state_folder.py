@@ -1,4 +1,4 @@
-"""A state's folder in a test: what is put there, what ./raire state makes of it, and how many things were as they should be."""
+"""A state's folder in a test: what is put there, what ./raire state makes of it, and how many checks passed."""
 import contextlib
 import csv
 import os
@@ -27,11 +27,11 @@ class Tried:
         return [CALL, folder, *more]
 
     def given(self, more=()):
-        """The environment, in which the program is the one that is tried if nothing else is said."""
+        """The environment; the program in it is the one that is tried, unless `more` gives another."""
         return {**os.environ, "RAIRE": self.program, **dict(more)}
 
     def run(self, folder, *more, given=()):
-        """Status and both texts."""
+        """The status and both texts."""
         done = subprocess.run(self.words(folder, *more), capture_output=True, text=True, stdin=subprocess.DEVNULL, env=self.given(given), timeout=PATIENCE)
         return done.returncode, done.stdout, done.stderr
 
@@ -75,5 +75,5 @@ def copy_of(folder, to):
 
 
 def whole(folder):
-    """The outputs that are there under their names."""
+    """The outputs that are there under their own names."""
     return {path: time for path, time in times(folder).items() if not path.endswith(".part")}

@@ -1,5 +1,5 @@
 #!/usr/bin/python3
-"""Sees that flake8 finds nothing in any file of Python, by the rules in .flake8. acceptance/style.py needs no program."""
+"""Checks that flake8 finds nothing in any Python file, by the rules in .flake8. acceptance/style.py needs no program."""
 import os
 import subprocess
 import sys
@@ -9,7 +9,7 @@ MADE = {"out", "made", "__pycache__"}
 
 
 def files():
-    """The files of Python in the repository, also those without an ending."""
+    """The Python files in the repository, including those without an extension."""
     for folder, below, names in os.walk(TOP):
         below[:] = sorted(name for name in below if name not in MADE and not name.startswith("."))
         for name in sorted(names):

@@ -1,12 +1,11 @@
 #!/usr/bin/env python3
 """Compares what the built program says of contests with many ties with plain.py, which breaks each tie in every way.
 
-acceptance/ties.py PROGRAM [CONTESTS] makes so many contests of 2 to 6 candidates, 2,000 if no number is given, most of them of
-fewer than ten ballots, searches each at 1, 2, 4 and 8 workers and tabulates it. Assertions that refute every other order have to be
-there exactly where each way of breaking the ties elects the same candidate. With a budget of one node the answer is the same, or
-that the budget is spent, with an order that some true assertion refutes; and the printed assertions pass a check. Then come contests of
-21 to 32 candidates, of whom the weak ones tie; in every second one two strong ones are alike, so that it isn't decided. The last lines
-say how many contests agreed.
+acceptance/ties.py PROGRAM [CONTESTS] makes CONTESTS contests of 2 to 6 candidates (2,000 by default), most of them with fewer than ten ballots, searches
+each with 1, 2, 4 and 8 workers and tabulates it. There must be assertions that refute every other order exactly if each way of breaking the ties elects the
+same candidate. With a budget of one node the answer is the same, or that the budget is spent, with an order that some true assertion refutes. The printed
+assertions pass a check. Then come contests of 21 to 32 candidates, the weak ones of whom tie; in every second contest two strong ones are alike, so that it
+isn't decided. The last lines say how many contests agreed.
 """
 import os
 import subprocess
@@ -21,7 +20,7 @@ from limits import MOST_WORKERS
 
 
 def rankings_of(draws, n):
-    """Few ballots, many of them alike, so that tallies are."""
+    """A few ballots, many of them alike, so that tallies are alike too."""
     kinds = compare.contest_of(draws, n, 1 + draws.below(4))
     return [kinds[draws.below(len(kinds))] for _ in range(draws.below(10))]
 
@@ -32,14 +31,14 @@ def ran(program, *words):
 
 
 def best_margin(contest, winner):
-    """The least, over all orders that elect another candidate, of the largest margin that a true assertion refutes it by."""
+    """The smallest, over all orders that elect another candidate, of the largest margin by which a true assertion refutes the order."""
     lows, others = plain.Lows(contest), (order for order in plain.itertools.permutations(range(contest.n)) if order[-1] != winner)
     return min(lows.low(order)[0] for order in others)
 
 
 def is_spent(contest, answer):
-    """The four lines of a budget that is spent: somebody who didn't win, and an order that elects such a candidate, of a margin from
-    1 to that of the order that a search starts from, the tabulated one with its last two exchanged."""
+    """Whether these are the four lines of a budget that is spent: a candidate who didn't win, an order that elects another candidate than the winner, and a
+    margin from 1 to that of the order that a search starts from, which is the tabulated order with its last two exchanged."""
     lines, tabulated, lows = answer[1].splitlines(), plain.tabulated(contest)[0], plain.Lows(contest)
     if answer[0] != 4 or answer[2] or len(lines) != 4 or lines[0] != "spent":
         return False
@@ -82,7 +81,7 @@ def mirrored(rankings):
 
 
 def faults_of_many(program, path, contest):
-    """What differs at any number of workers; all orders are too many to be listed."""
+    """What differs with any number of workers; there are too many orders to list them all."""
     wanted = (*compare.wanted(contest, plain.certificate_by_bound), "")
     for workers in (1, 2, 4, MOST_WORKERS):
         if ran(program, "search", path, f"--workers={workers}") != wanted:

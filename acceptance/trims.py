@@ -1,10 +1,10 @@
 #!/usr/bin/env python3
 """Compares trims of the built program with the plain trimmer.
 
-acceptance/trims.py PROGRAM [CONTESTS] makes so many contests of 2 to 7 candidates, 1,000 if no number is given. Each that is decided is searched, its file
-trimmed and trimmed again, with many nodes or sets and with few. So is the same file with up to a dozen more assertions that hold, some of which refute
-the same as others, and such a file without its order, as version 3, in which they may have a smaller margin than its own. What is printed has to be accepted
-by `check`, and refused with `no: order .. stands` where any one claim is left out of it.
+acceptance/trims.py PROGRAM [CONTESTS] makes CONTESTS contests of 2 to 7 candidates (1,000 by default). It searches each; if the contest is decided, it
+trims the file and trims it again, with many nodes or sets and with few. It does the same with that file and up to a dozen more assertions that hold, some
+of which refute the same as others, and with a file like that without its order, as version 3, in which the assertions may have a smaller margin than its
+own. `check` must accept what is printed, and refuse it with `no: order .. stands` if any one claim is omitted.
 """
 import json
 import os
@@ -26,7 +26,7 @@ def ran(program, *words):
 
 
 def another(contest, claims, draws):
-    """Some assertion: any one, or a NEN of the file with another loser."""
+    """An assertion: any one, or a NEN of the file with another loser."""
     winner, loser = draws.below(contest.n), draws.below(contest.n)
     rest = frozenset(c for c in range(contest.n) if draws.below(2)) | {winner, loser}
     nens = [claim for claim in claims if claim["kind"] == "NEN"]
@@ -55,7 +55,7 @@ def covering(contest, found, draws):
 
 
 def add_claims(contest, value, least, draws):
-    """More assertions that hold, anywhere among those of the file, by at least this margin."""
+    """Adds assertions that hold by at least this margin, anywhere among those of the file."""
     claims = value["assertions"]
     for _ in range(draws.below(13)):
         kind, winner, loser, *rest = assertion = another(contest, claims, draws)
@@ -66,7 +66,7 @@ def add_claims(contest, value, least, draws):
 
 
 def faults(program, ballots, found, folder, draws):
-    """What differs from the definition, of the assertions of a file."""
+    """How trims of a file's assertions differ from the definition."""
     path, again = os.path.join(folder, "found.json"), os.path.join(folder, "trimmed.json")
     with open(path, "w") as file:
         file.write(found)
@@ -104,7 +104,7 @@ def main():
     draws, agree, failed = Draws(19), 0, 0
     with tempfile.TemporaryDirectory() as folder:
         for number in range(contests):
-            # One in fifty has seven candidates: all their suffixes take a while.
+            # One in fifty has seven candidates, since going through all their suffixes takes a while.
             n = 7 if number % 50 == 49 else 2 + number % 5
             ids = [str(11 + c) for c in range(n)]
             ballots = os.path.join(folder, "ballots.raire")

@@ -1,9 +1,9 @@
 #!/usr/bin/env python3
 """Runs the commands that README and docs/ show together with what they print, and compares.
 
-acceptance/walk.py PROGRAM [PAGES] takes from each page its blocks of lines that begin with `$ `. The commands of a section, which begins with `## `, are run one
-after the other by one bash, in a folder that has only the repository's examples at first; so each section works alone. Each command has to print the lines
-below it. There `...` is what the page omits: lines, if it is a line of its own. The last line says how many commands did.
+acceptance/walk.py PROGRAM [PAGES] takes from each page the blocks of lines that begin with `$ `. One bash runs the commands of a section, which begins with
+`## `, in order, in a folder that has only the repository's examples at first; so each section works by itself. Each command must print the lines below it.
+In these lines `...` stands for what the page omits: whole lines, if it is a line of its own. The last line says how many commands did.
 """
 import os
 import re
@@ -19,11 +19,11 @@ sys.path.append(os.path.join(TOP, "tools", "build"))
 import built  # noqa: E402
 
 MARK = "that was printed by the line above"
-UNTRIED = ("the engine is missing", "templates are missing", "a library is missing", "bc: command not found")  # what isn't here can't be tried
+UNTRIED = ("the engine is missing", "templates are missing", "a library is missing", "bc: command not found")  # what isn't installed can't be tried
 
 
 def blocks_of(text):
-    """The blocks of a page: lines between two fences, and paragraphs of lines with four blanks in front."""
+    """The blocks of a page: lines between two fences, and paragraphs of lines that begin with four blanks."""
     for part in re.findall(r"^```\w*\n(.*?)^```$", text, re.MULTILINE | re.DOTALL):
         yield part
     for part in re.findall(r"(?:^    .*\n|^\n(?=    ))+", text, re.MULTILINE):
@@ -31,7 +31,7 @@ def blocks_of(text):
 
 
 def shown(text):
-    """Each command of a page, with its further lines behind a backslash, and what it is said to print."""
+    """Each command of a page, with the lines that continue it after a backslash, and what it is said to print."""
     for block in blocks_of(text):
         for part in re.split(r"^\$ ", block, flags=re.MULTILINE)[1:]:
             lines = part.rstrip("\n").split("\n")
@@ -47,8 +47,8 @@ def is_as_shown(printed, wanted):
 
 
 def printed_by(commands, folder, given, root=""):
-    """What each command prints on standard output and error, in one bash, which keeps statuses and variables from one to the next; in the folder of
-    another root, if one is given."""
+    """What each command prints on standard output and error. One bash runs them all, so statuses and variables carry over from one to the next; it runs in
+    the folder of another root, if one is given."""
     lines = ["exec 2>&1"] + [f"{command}\nlast=$?; echo; echo '{MARK}'; (exit $last)" for command in commands]
     words = ["chroot", root, "bash", "-c", "\n".join([f"cd {shlex.quote(folder)}", *lines])] if root else ["bash", "-c", "\n".join(lines)]
     ran = subprocess.run(words, stdout=subprocess.PIPE, stdin=subprocess.DEVNULL, cwd="/" if root else folder, env=given)
@@ -56,7 +56,7 @@ def printed_by(commands, folder, given, root=""):
 
 
 def write_stand_in(program, script):
-    """A ./raire of another program than the clone's own, which is never built."""
+    """Writes a ./raire for another program than the clone's own, which is never built."""
     with open(os.path.join(TOP, "raire")) as file:
         text = file.read()
     text = re.sub("(?m)^top=.*$", lambda _: f"top={shlex.quote(TOP)}", text)
@@ -68,7 +68,7 @@ def write_stand_in(program, script):
 
 
 def put_repository(program, folder):
-    """The names that a page uses. Another program than the clone's own stands in for ./raire, and ./raire show asks it."""
+    """Makes the names that a page uses. Another program than the clone's own replaces ./raire, and ./raire show asks it."""
     for name in ("examples", "acceptance", "docs", "plain", "tools"):
         os.symlink(os.path.join(TOP, name), os.path.join(folder, name))
     script = os.path.join(folder, "raire")
@@ -85,7 +85,7 @@ def sections_of(text):
 
 
 def tried(program, page):
-    """How many commands the page shows, and what is otherwise than it says."""
+    """How many commands the page shows, and what differs from what it says."""
     with open(os.path.join(TOP, page)) as file:
         sections = [list(shown(section)) for section in sections_of(file.read())]
     wrong = []

@@ -1,13 +1,13 @@
 #!/usr/bin/env python3
-"""Times `raire adopt` beside `raire check`, on assertions of contests that are made the same at every run.
+"""Times `raire adopt` and `raire check`, on assertions of contests that are the same at every run.
 
-For each contest it searches by sets, adopts the assertions of what is printed, and prints how many there are. Then come, of a check of what `adopt` printed, of a
-check of the same file with a blank more, which isn't read in the quick way of printed files, and of an adoption, the seconds of the processor and the peak memory;
-and how many times as much the adoption took as the first check. The commands take turns, and the least of ten runs of each counts. The claims are those of
-`./raire import`, in its form.
+For each contest it searches by sets, adopts the assertions that are printed, and prints how many there are. Then it prints the processor seconds and the
+peak memory of three commands: a check of what `adopt` printed, a check of the same file with one more blank, which isn't read in the quick way of
+printed files, and an adoption. Last it prints how many times as much the adoption took as the first check. The commands take turns, and the best of ten
+runs of each counts. The claims are those of `./raire import`, in its form.
 
     bench/adopt.py                     all contests
-    bench/adopt.py "near-equal 12"     those of these names
+    bench/adopt.py "near-equal 12"     the contests with these names
 """
 import json
 import os
@@ -21,7 +21,7 @@ from limits import MOST_SETS  # noqa: E402
 
 RUNS, EQUAL, MEASURED = 10, "near-equal", "/usr/bin/time"
 
-# Of each contest the candidates, the ballots, and the sets that suffice.
+# For each contest, the candidates, the ballots, and the sets that are enough.
 CONTESTS = {
     "near-equal 12": (12, 100_000, 4096),
     "near-equal 12, few ballots": (12, 2_000, 4096),
@@ -30,7 +30,7 @@ CONTESTS = {
 
 
 def printed(path, *words):
-    """The bytes that the program prints, also in a file."""
+    """Writes what the program prints to a file."""
     with open(path, "wb") as file:
         if subprocess.run([PROGRAM, *words], stdout=file).returncode != 0:
             sys.exit(f"{' '.join(words)}: it has no answer")
@@ -46,7 +46,7 @@ def claims_of(path):
 
 
 def seconds_of(words):
-    """Of one run, in user mode and for the system: of so short a run the system can't say which of both a part was."""
+    """The seconds of one run in user mode and in the system, since for a run this short the system can't tell the two apart."""
     pid = os.posix_spawn(PROGRAM, [PROGRAM, *words], os.environ, file_actions=[(os.POSIX_SPAWN_OPEN, 1, os.devnull, os.O_WRONLY, 0)])
     _, status, usage = os.wait4(pid, 0)
     if status != 0:
@@ -55,13 +55,13 @@ def seconds_of(words):
 
 
 def memory_of(words):
-    """In MB, of one run by a small program: what this script takes doesn't count."""
+    """The memory of one run in MB, measured by a small program, so that what this script uses doesn't count."""
     done = subprocess.run([MEASURED, "-f", "%M", PROGRAM, *words], stdout=subprocess.DEVNULL, stderr=subprocess.PIPE, text=True)
     return int(done.stderr.split()[-1]) * 1024 / 1e6
 
 
 def least(*commands):
-    """The least seconds and the least memory of each command, which take turns."""
+    """The smallest seconds and the smallest memory of each command; the commands take turns."""
     runs = [[(seconds_of(words), memory_of(words)) for words in commands] for _ in range(RUNS)]
     return [tuple(map(min, zip(*of_one))) for of_one in zip(*runs)]
 

@@ -1,10 +1,10 @@
 #!/usr/bin/env python3
-"""Times files whose author wants them to take long, beside honest files of the same size.
+"""Times files whose author wants them to take long, compared with honest files of the same size.
 
-For each it prints the least processor time of some runs of each, the time of the adversary's by the longest of the honest ones, and the peak
-memory of both. Files are made the same at every run.
+For each it prints the smallest processor time of several runs of each file, the ratio of the adversary's time to the longest honest time, and the peak
+memory of both. The files are the same at every run.
 
-    bench/adversary.py [RUNS]    three runs of each, if it isn't said
+    bench/adversary.py [RUNS]    RUNS runs of each (3 by default)
 """
 import os
 import random
@@ -92,7 +92,7 @@ def contest(name, ballots):
 
 
 def candidates():
-    """A candidate each on a ballot alone, and the rest of the ballots for one; the honest contests have rankings that are drawn."""
+    """Each candidate alone on a ballot, and one candidate on the rest of the ballots; the honest contests have random rankings."""
     draws = random.Random(3)
     everybody = range(CANDIDATES)
     few = [draws.sample(everybody, 1 + draws.randrange(3)) for _ in range(CANDIDATES * CANDIDATES)]

@@ -1,12 +1,12 @@
 #!/usr/bin/env python3
-"""Times the commands of an audit on a county that is made the same at every run.
+"""Times the commands of an audit on a county that is the same at every run.
 
-The county has 1,000,000 cards in 4,000 batches, a ballot for each of them, and 10 candidates; the audit has 10,000 draws in
-two rounds. Each command is run three times and the least counts; the time that `tabulate` takes stands beside it, since
-most of an audit is reading the ballots. Commands that the program doesn't have are left out.
+The county has 1,000,000 cards in 4,000 batches, a ballot for each card, and 10 candidates. The audit has 10,000 draws in two rounds. Each command is run
+three times, and the best time counts. The time of `tabulate` is printed for comparison, since most of an audit is reading the ballots. Commands that the
+program doesn't have are omitted.
 
-    bench/audit.py            the county, a minute or two to make
-    bench/audit.py 100000     so many cards
+    bench/audit.py            the county, which takes a minute or two to make
+    bench/audit.py 100000     this many cards
 """
 import os
 import subprocess
@@ -26,7 +26,7 @@ SEED, CANDIDATES, BATCHES, ROUNDS = "2024", 10, 4_000, (5_000, 10_000)
 
 
 def write_county(cards):
-    """Ballots, manifest and what is seen of the drawn cards, which is what is recorded."""
+    """Writes ballots, a manifest and what is seen of the drawn cards, which is what is recorded."""
     draws = Draws(20)
     size = cards // BATCHES
     pool = [
@@ -48,7 +48,7 @@ def write_county(cards):
 
 
 def run(name, words, keeps=None):
-    """Prints the least of three times, and keeps what the command prints."""
+    """Prints the best of three times, and keeps what the command prints."""
     times = []
     for _ in range(3):
         began = time.monotonic()

@@ -1,10 +1,12 @@
 #!/usr/bin/env python3
-"""Times `raire contests` on a county that is made the same at every run: 64 contests of 4 candidates, 1,000,000 ballots in all, 250,000 cards with
-4 of the contests each, and 10,000 draws, each drawn card seen as it is recorded in each contest.
+"""Times `raire contests` on a county that is the same at every run.
+
+The county has 64 contests of 4 candidates, 1,000,000 ballots in all, 250,000 cards with 4 of the contests each, and 10,000 draws. Each drawn card is seen
+as it is recorded in each contest.
 
     bench/contests.py [PROGRAM]     for 1, 2, 4 and 8 workers the seconds of one draw and of 10,000, what the draws take, and the peak memory; then
-                                    the same contests one after the other by `search` and `audit`, which read the file once each. The least of
-                                    three runs counts
+                                    the same contests one by one with `search` and `audit`, which read the file once each. The best of three runs
+                                    counts
 """
 import os
 import subprocess
@@ -22,13 +24,13 @@ SIZE = CARDS // BATCHES
 
 
 def contests_on(at):
-    """The contests on a card: of a district whose cards lie together."""
+    """The contests on a card, which are those of a district; the cards of a district are next to each other."""
     first = at * (MOST_CONTESTS // ON_A_CARD) // CARDS * ON_A_CARD
     return range(first, first + ON_A_CARD)
 
 
 def write_county():
-    """Ballots, manifest, and what is seen of the drawn cards: a record for each contest."""
+    """Writes ballots, a manifest, and what is seen of the drawn cards, with a record for each contest."""
     draws, names = Draws(64), ",".join(str(15 + c) for c in range(CANDIDATES))
     rankings = pool(draws, weights_of(CANDIDATES, ""), 20_000, CANDIDATES)
     drawn = {plain_audit.drawn(SEED, k, CARDS) - 1 for k in range(1, DRAWS + 1)}
@@ -54,7 +56,7 @@ def written(name, *command):
 
 
 def time_alone(program):
-    """A contest by commands of its own: what its search and its round take, each with the files read anew."""
+    """Times a contest with commands of its own: its search and its round, each of which reads the files again."""
     contest, files = ["--contest=300"], ["ballots.raire", "manifest.csv", "alone.json"]
     written("alone.json", program, "search", "ballots.raire", *contest, "--workers=1")
     written("session.json", program, "open", *files, *contest, f"--seed={SEED}")

@@ -1,9 +1,9 @@
 #!/usr/bin/python3
 """How much memory and time ./raire convert takes for large exports: bench/convert.py [MEGABYTES] [FORM..]
 
-Makes an export of this size (default: 1000 megabytes, which is 1 GB) in each form (default: all of FORMS), one after the other, converts it, deletes it, and
-prints a line: the form, its bytes, its cards, the peak of resident memory in megabytes and the seconds of the processor. Status 1 if some form takes more
-than MOST_MEMORY. The exports are made in the folder that BENCH_FOLDER names in the environment, or in /tmp.
+For each form (default: all of FORMS), in order, makes an export of this size (default: 1000 megabytes, which is 1 GB), converts it, deletes it, and prints
+a line: the form, its bytes, its cards, the peak of resident memory in megabytes and the processor seconds. The status is 1 if some form takes more than
+MOST_MEMORY. The exports are made in the folder that BENCH_FOLDER names in the environment, or in /tmp.
 """
 import itertools
 import json
@@ -28,7 +28,7 @@ def rankings():
 
 
 def filled(path, size, head, between, tail, cards):
-    """Writes cards until the file has so many bytes."""
+    """Writes cards until the file has this many bytes."""
     written = 0
     with open(path, "w") as file:
         file.write(head)
@@ -40,7 +40,7 @@ def filled(path, size, head, between, tail, cards):
 
 
 def numbered(texts):
-    """The texts again and again, each with the number of its card, 50 to a batch."""
+    """The texts over and over, each with the number of its card, 50 to a batch."""
     number = 0
     while True:
         yield texts[number % POOL].replace("77777", str(number // 50 + 1)).replace("88888", str(number % 50 + 1))
@@ -68,7 +68,7 @@ def dominion(folder, size):
 
 
 def nist(folder, size):
-    """A report whose head stands behind its records, so that it is read several times."""
+    """A report whose head comes after its records, so that it is read several times."""
     election = {
         "@id": "_e", "Candidate": [{"@id": f"_p{c}", "Name": f"Candidate {c}"} for c in CANDIDATES],
         "Contest": [{
@@ -124,7 +124,7 @@ def clear_ballot(folder, size):
 
 
 def nist_xml(folder, size):
-    """A report as the schema orders it: the records stand before the election."""
+    """A report in the order of the schema: the records come before the election."""
     election = '<Election ObjectId="_e">' + "".join(f'<Candidate ObjectId="_p{c}"><Name>Candidate {c}</Name></Candidate>' for c in CANDIDATES)
     chosen = "".join(
         f'<ContestSelection ObjectId="_s{c}">' + ("<IsWriteIn>true</IsWriteIn>" if c == 9 else f"<CandidateIds>_p{c}</CandidateIds>") + "</ContestSelection>" for c in CANDIDATES
@@ -146,7 +146,7 @@ def nist_xml(folder, size):
 
 
 def card_of_hart(ranking, contests):
-    """A card as a county has it, with many contests of five options; the first one is the ranked one."""
+    """A card as a county has it, with many contests of five options each; the first contest is the ranked one."""
     def contest(name, key, options):
         return f"<Contest><Name>{name}</Name><Id>{key}</Id><Options>{options}</Options></Contest>"
 
@@ -165,7 +165,7 @@ def card_of_hart(ranking, contests):
 
 
 def cards_of_hart(size, contests):
-    """The name and the text of each card, until there are so many bytes."""
+    """The name and the text of each card, until there are this many bytes."""
     written = 0
     for number, card in enumerate(numbered([card_of_hart(ranking, contests) for ranking in rankings()])):
         yield f"{number // 1000}/{number}.xml", card
@@ -221,7 +221,8 @@ def unified(folder, size):
 
 
 def preflib(folder, size, kind, order):
-    """Orders with blanks between, so that a ballot has as many bytes as in other forms; short names, so that the ballot file isn't too long."""
+    """Orders with blanks between the candidates, so that a ballot has as many bytes as in other forms, and with short names, so that the ballot file isn't
+    too long."""
     chance, length = random.Random(2), 1100
     texts = [order(chance.sample(CANDIDATES, len(CANDIDATES))) for _ in range(POOL)]
     lines = [f"1: {text.replace(',', ',' + ' ' * ((length - len(text)) // text.count(',')))}\n" for text in texts]
@@ -253,7 +254,7 @@ FORMS = {
 
 
 def measured(form, size, folder):
-    """The cards that were read, the peak of memory in bytes, the seconds of the processor and the status of a call."""
+    """The cards that were read, the peak of memory in bytes, the processor seconds and the status of a call."""
     paths = FORMS[form](folder, size)
     account, out = os.path.join(folder, "account.txt"), os.path.join(folder, "out.raire")
     with open(out, "wb") as file:

@@ -10,7 +10,7 @@ def card_of(digest: bytes, cards: int) -> int:
 
 
 def drawn_card(seed: bytes, k: int, cards: int) -> int:
-    """The card of draw number k, from 1."""
+    """The card of draw number k, counted from 1."""
     return card_of(hashlib.sha256(seed + b"," + str(k).encode()).digest(), cards)
 
 

@@ -1,17 +1,17 @@
 #!/usr/bin/env python3
-"""Times `raire search --fewest` beside `raire search --sets`, on contests that are made the same at every run.
+"""Times `raire search --fewest` and `raire search --sets`, on contests that are the same at every run.
 
-For each contest it prints how many assertions the certificate has and how many a search for the fewest NENs prints, with the NENs among them; the seconds of
-both searches, at one worker and, of the second, at four; the peak memory and the status of the second; and the seconds of a `check` of what it printed. The
-least of three runs counts, of one run where it took more than ten seconds.
+For each contest it prints how many assertions the certificate has, and how many a search for the fewest NENs prints, with the NENs among them. It also
+prints the seconds of both searches with one worker, and of the second search with four; the peak memory and the status of the second search; and the
+seconds of a `check` of what that search printed. The best of three runs counts, or the only run if it took more than ten seconds.
 
     bench/fewest.py                      all contests
-    bench/fewest.py "near-equal 16"      those of these names
+    bench/fewest.py "near-equal 16"      the contests with these names
     bench/fewest.py families [SEED [FAMILY ..]]
-        some contests of each family, of 20,000 ballots: the median and the sum of the assertions of both, and of the NENs
+        some contests of each family, of 20,000 ballots: the median and the sum of the assertions of both searches, and of the NENs
     bench/fewest.py slowest CANDIDATES [CONTESTS]
-        of so many close contests in the plane, 40 if no number is given, the one whose search for the fewest NENs takes the most processor time, at one
-        worker: that time and memory, beside those of the search by sets
+        makes CONTESTS close contests in the plane (40 by default) and takes the one whose search for the fewest NENs takes the most processor time
+        with one worker: prints that time and memory, and those of the search by sets
 """
 import math
 import os
@@ -28,7 +28,7 @@ from limits import MOST_SETS  # noqa: E402
 
 BALLOTS, SECONDS, MEMORY = 100_000, 600, 8_000_000_000
 
-# Of each contest how often each candidate is ranked, and up to how many candidates a ballot ranks.
+# For each contest, how often each candidate is ranked, and how many candidates a ballot ranks at most.
 CONTESTS = {
     "near-equal 12": (weights_of(12, "near-equal"), 12),
     "near-equal 16": (weights_of(16, "near-equal"), 16),
@@ -43,7 +43,7 @@ FAMILY_BALLOTS, EACH, FEW = 20_000, 12, 3
 
 
 def in_file(path):
-    """How many assertions a file has, and how many of them are NENs: a large one isn't read as JSON."""
+    """How many assertions a file has, and how many of them are NENs. A large file isn't read as JSON."""
     with open(path, "rb") as file:
         text = file.read()
     return text.count(b'"kind"'), text.count(b'"NEN"')
@@ -67,7 +67,7 @@ def time_contest(name, folder):
 
 
 def by_weights(weights):
-    """Each next candidate of a ranking is drawn by its weight; rankings are cut off as people do."""
+    """Each next candidate of a ranking is drawn by its weight; rankings are cut off as people do it."""
 
     def ranking(dice):
         keys = sorted(range(len(weights)), key=lambda c: -math.log(dice.random()) / weights[c])
@@ -81,7 +81,7 @@ def cut(dice, n):
 
 
 def mallows(n, phi):
-    """Each candidate of a fixed order is put in at a place, the further from the end the less often."""
+    """Each candidate of a fixed order is inserted at a place: the further from the end, the less often."""
 
     def ranking(dice):
         order = []
@@ -94,7 +94,7 @@ def mallows(n, phi):
 
 
 def in_the_plane(n, dice, spread=0):
-    """Voters rank by nearness, to which each candidate's strength is added."""
+    """Voters rank by nearness; each candidate's strength is added to it."""
     candidates = [(dice.gauss(0, 1), dice.gauss(0, 1), dice.gauss(0, spread)) for _ in range(n)]
 
     def ranking(dice):
@@ -106,7 +106,7 @@ def in_the_plane(n, dice, spread=0):
 
 
 def in_camps(camps, spread, strengths, pull, most, dice):
-    """Voters stand near the middle of one of some camps. They rank by strength and nearness, and by chance, up to so many candidates."""
+    """Voters are near the middle of one of some camps. They rank by strength, nearness and chance, up to this many candidates."""
     candidates = [(dice.gauss(0, spread), dice.gauss(0, spread), strength) for strength in strengths]
     weights = [weight for weight, _, _, _ in camps]
 
@@ -119,12 +119,12 @@ def in_camps(camps, spread, strengths, pull, most, dice):
     return ranking
 
 
-CITY = [(0.34, 0.8, 0.2, 0.5), (0.26, -0.7, 0.5, 0.5), (0.25, -0.1, -0.6, 0.5), (0.15, 0.3, 0.9, 0.6)]  # the weight of each camp, where it is and how wide
+CITY = [(0.34, 0.8, 0.2, 0.5), (0.26, -0.7, 0.5, 0.5), (0.25, -0.1, -0.6, 0.5), (0.15, 0.3, 0.9, 0.6)]  # the weight of each camp, its place and its width
 TWO_CAMPS = [(0.6, 0.4, 0, 0.6), (0.4, -0.5, 0.2, 0.6)]
 ONE_CAMP = [(1, 0, 0, 0.5)]
 CITY_STRENGTHS = [1.4, 1.2, 1.1, 0.9, 0, -0.2, -0.2, -0.5, -1.9, -2, -2.4, -2.5, -2.6, -4]
 
-# Of each family how many candidates and contests there are, and how one is made.
+# For each family, the number of candidates and of contests, and how a contest is made.
 FAMILIES = {
     "nearly equal, 8": (8, EACH, lambda dice: by_weights([1 + 0.02 * dice.random() for _ in range(8)])),
     "nearly equal, 12": (12, EACH, lambda dice: by_weights([1 + 0.02 * dice.random() for _ in range(12)])),

@@ -1,12 +1,12 @@
 #!/usr/bin/env python3
-"""Times `raire poll`, and tells how many draws a poll takes beside a comparison.
+"""Times `raire poll`, and prints how many draws a poll takes compared with a comparison audit.
 
-    bench/poll.py            a poll of 1,000,000 cards, 30 assertions and 10,000 draws, beside one of the same files and one draw: what the draws
-                             take stands last, the least of five runs each; then the same with a look after each draw
+    bench/poll.py            a poll of 1,000,000 cards, 30 assertions and 10,000 draws, and a poll of the same files with one draw; the last number
+                             is what the draws take. The best of five runs of each counts. Then the same with a look after each draw
     bench/poll.py draws      for margins of a contest of two candidates and 10,000 cards, each of them for one or the other: the draws of a clean
                              comparison by `raire plan`, and the draws after which half, and nine in ten, of 200 seeds are confirmed by a
                              poll with a look after each draw and the gamma that fits, and by polls without; the program confirms each at that
-                             draw, and not before. A dash stands where they aren't within 100,000 draws, or 20,000 without a look after each
+                             draw, and not before. A dash means that they aren't within 100,000 draws, or 20,000 without a look after each
 """
 import math
 import os
@@ -27,7 +27,7 @@ PERCENTS, GAMMAS, LIMIT, SEEDS, MOST, MOST_EACH = (1, 2, 5, 10, 20, 30, 40, 50, 
 # ---- what a poll takes
 
 def write_large():
-    """A manifest, what is seen of the drawn cards, and assertions, those of a contest and some of them once more."""
+    """Writes a manifest, what is seen of the drawn cards, and assertions: those of a contest, and some of them again."""
     draws, size = Draws(20), CARDS // BATCHES
     rankings = [
         ",".join(str(15 + c) for c in dict.fromkeys(min(draws.below(CANDIDATES), draws.below(CANDIDATES)) for _ in range(1 + draws.below(5))))
@@ -64,7 +64,7 @@ def time_large():
 # ---- how many draws
 
 def write_contest(cards, margin):
-    """Two candidates, of whom the first has so many votes more; the seen file has all cards."""
+    """Writes a contest of two candidates, with this margin for the first; the seen file has all cards."""
     first = (cards + margin) // 2
     with open("manifest.csv", "w") as file:
         file.write(f"batch,cards\nb,{cards}\n")
@@ -78,7 +78,7 @@ def write_contest(cards, margin):
 
 
 def lowered(gamma):
-    """The printed risk after so many draws for the first candidate, and none for the other."""
+    """The printed risk after 0, 1, 2, .. draws for the first candidate, and none for the other."""
     units = [plain_poll.UNIT]
     for _ in range(MOST):
         units.append(-(-units[-1] * (500 + gamma) // (1000 + gamma)))
@@ -86,7 +86,7 @@ def lowered(gamma):
 
 
 def is_within(units, against, gamma):
-    """Whether the printed risk, raised by so many draws for the other candidate, is within the limit."""
+    """Whether the printed risk, raised by this many draws for the other candidate, is within the limit."""
     for _ in range(against):
         if units > LIMIT * 10**12:
             return False
@@ -95,7 +95,7 @@ def is_within(units, against, gamma):
 
 
 def first_draw(seed, cards, first, gamma, units):
-    """The first draw after which the assertion is confirmed, or None. Where the least units are raised above the limit no further one is."""
+    """The first draw after which the assertion is confirmed, or None. If even the smallest units are raised above the limit, no later draw confirms it."""
     against = 0
     for k in range(1, MOST + 1):
         against += plain_audit.drawn(seed, k, cards) > first
@@ -132,7 +132,7 @@ def polls_each(cards, first):
 
 
 def shares(found, *more):
-    """The draws that half and nine in ten of the seeds take, as texts."""
+    """The draws that half of the seeds and nine in ten take, as texts."""
     took = sorted((draws, seed) for draws, seed in found if draws)
     told = []
     for share in (0.5, 0.9):

@@ -1,9 +1,9 @@
 #!/usr/bin/env python3
-"""Tells after how many draws the program's polls confirm, beside what `plan --poll` says.
+"""Prints after how many draws the program's polls confirm, and what `plan --poll` says.
 
-bench/poll_draws.py [PROGRAM] [SEEDS]    for contests of two candidates and 10,000 cards, each of them for one or the other: the draw that confirms in half of
-                                         so many seeds, 200 if no number is given, and in nine in ten, by `poll --each --gamma best` of each seed; then what
-                                         is planned, and how many of the seeds confirmed within these draws
+bench/poll_draws.py [PROGRAM] [SEEDS]    for contests of two candidates and 10,000 cards, each of them for one or the other: the draw that confirms in
+                                         half of SEEDS seeds (200 by default), and in nine in ten, by `poll --each --gamma best` of each seed; then
+                                         what is planned, and how many of the seeds confirmed within these draws
 """
 import math
 import os
@@ -20,7 +20,7 @@ import plan_poll  # noqa: E402
 from poll import write_contest  # noqa: E402
 
 CARDS, PERCENTS, LIMIT = 10_000, (20, 10, 5), 50_000
-MORE = (1, 4, 100)  # the draws of a call, times those that are planned for nine in ten; the later ones where the poll wasn't confirmed
+MORE = (1, 4, 100)  # the draws of a call, as multiples of those planned for nine in ten; the later ones are for polls that weren't confirmed
 
 
 def confirming(program, seed, draws):

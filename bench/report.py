@@ -1,10 +1,12 @@
 #!/usr/bin/env python3
-"""Times `raire report` on a session of many rounds: 1,000 rounds of 100 draws each, of 10 claims. Each round has the risks of all its draws, so
-that a reader who begins each chain anew takes 500 million steps, and one who goes on from the round before one million.
+"""Times `raire report` on a session of many rounds: 1,000 rounds of 100 draws each, for 10 claims.
 
-    bench/report.py                       the processor time of the built program: the least of three runs
-    bench/report.py PROGRAM [PROGRAM ..]  of each of these programs, and its ratio to the first; all have to print the same
-    BENCH_ROUNDS=100 bench/report.py ..   so many rounds
+Each round has the risks of all its draws, so a reader that begins each chain anew takes 500 million steps, and one that continues from the round before
+takes one million.
+
+    bench/report.py                       the processor time of the built program: the best of three runs
+    bench/report.py PROGRAM [PROGRAM ..]  that of each of these programs, and its ratio to the first; all must print the same
+    BENCH_ROUNDS=100 bench/report.py ..   this many rounds
 """
 import os
 import resource
@@ -24,7 +26,7 @@ MARGINS = [40 + 3 * claim for claim in range(CLAIMS)]
 
 
 def chain(margin):
-    """The printed risks at the ends of the rounds, where each draw is clean."""
+    """The printed risks at the ends of the rounds if each draw is clean."""
     threshold, now, risks = 2 * CARDS - margin, ONE, []
     over, under = (500 + GAMMA) * threshold, 1000 * CARDS + GAMMA * threshold
     for _ in range(ROUNDS):
@@ -35,7 +37,7 @@ def chain(margin):
 
 
 def session():
-    """A session of those rounds, as it is printed."""
+    """A session of these rounds, as it is printed."""
     chains = [chain(margin) for margin in MARGINS]
     rounds = [
         {"counts": [[0, 0, DRAWS * (k + 1), 0, 0]] * CLAIMS, "draws": DRAWS * (k + 1), "risks": [risks[k] for risks in chains]}
@@ -50,7 +52,7 @@ def session():
 
 
 def once(program, path):
-    """Processor seconds of one run, and what it prints and answers."""
+    """The processor seconds of one run, and what it prints and answers."""
     before = resource.getrusage(resource.RUSAGE_CHILDREN)
     ran = subprocess.run([program, "report", path], stdout=subprocess.PIPE, stderr=subprocess.STDOUT)
     after = resource.getrusage(resource.RUSAGE_CHILDREN)

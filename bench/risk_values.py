@@ -1,9 +1,9 @@
 #!/usr/bin/env python3
-"""Values of the printed risk and of clean draws, worked out with exact fractions.
+"""Values of the printed risk and of clean draws, computed with exact fractions.
 
-Prints the two tables of crates/audit_tests/src/km_risk_tests.rt: run it, and put its output in place of the tables there.
-The factors are those of SHANGRLA (section 3.2), taken as fractions, and not the whole numbers that the program
-multiplies. Each risk is also held against its exact product from both sides, where that isn't too long to work out.
+Prints the two tables of crates/audit_tests/src/km_risk_tests.rt: run it, and replace the tables there with its output. The factors are those of SHANGRLA
+(section 3.2), taken as fractions, and not the whole numbers that the program multiplies. Each risk is also compared with its exact product from both sides,
+unless that takes too long to compute.
 """
 from fractions import Fraction
 
@@ -36,7 +36,7 @@ def risk(counts, cards, margin, gamma):
 
 
 def is_between(value, counts, cards, margin, gamma):
-    """At least the smaller of one and the exact risk; above it by at most a unit a draw, times the large factors."""
+    """Whether the value is at least the smaller of one and the exact risk, and above it by at most a unit a draw, times the large factors."""
     exact = Fraction(1)
     large = Fraction(1)
     for d in range(5):
@@ -88,7 +88,7 @@ def settings_at_the_limits():
 
 
 def settings_between():
-    """Further ones, by a small generator of numbers: clean audits with some discrepancies."""
+    """More settings, from a small generator of numbers: clean audits with some discrepancies."""
     state = 2024
 
     def below(n):

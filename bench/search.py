@@ -1,15 +1,15 @@
 #!/usr/bin/env python3
-"""Times `raire search` and `raire tabulate` on ballot files that are made the same at every run.
+"""Times `raire search` and `raire tabulate` on ballot files that are the same at every run.
 
-For each contest it prints the size of the file, the seconds of `tabulate` and of `search`, and how these are made up:
-reading (the time that the same file takes to be refused at its last record), tabulating (what `tabulate` takes beside
-that), and searching with certifying (what `search` takes beside `tabulate`); then the bytes read a second, the peak
-memory of `search`, its status, and the time of `cksum` on the file. The least of three runs counts.
+For each contest it prints the size of the file, the seconds of `tabulate` and of `search`, and how these are made up: reading (the time in which the same
+file is refused at its last record), tabulating (the time of `tabulate` beyond that), and searching with certifying (the time of `search` beyond that of
+`tabulate`). Then it prints the bytes read a second, the peak memory of `search`, its status, and the time of `cksum` on the file. The best of three runs
+counts.
 
-    bench/search.py            all contests, a minute or two
+    bench/search.py            all contests, which take a minute or two
     bench/search.py 4 10000    one realistic contest: candidates and ballots
-    bench/search.py equal 15   one near-equal contest of so many candidates and 100,000 ballots
-    bench/search.py strong 20  one contest of so many candidates, four of them strong, and 100,000 ballots
+    bench/search.py equal 15   one near-equal contest of this many candidates and 100,000 ballots
+    bench/search.py strong 20  one contest of this many candidates, four of them strong, and 100,000 ballots
 """
 import os
 import sys
@@ -29,7 +29,7 @@ NEAR_EQUAL = [12, 15, 20]
 
 
 def pool(draws, weights, size, most):
-    """Rankings of up to so many candidates, each next one drawn by its weight."""
+    """Rankings of at most this many candidates, each drawn by its weight among those that are left."""
     rankings = []
     for _ in range(size):
         left, ranking = list(range(len(weights))), []
@@ -46,7 +46,7 @@ def pool(draws, weights, size, most):
 
 
 def weights_of(candidates, kind):
-    """How often each candidate is ranked: all alike; a few far more often than the others; or each less often than the one before."""
+    """How often each candidate is ranked: all equally often; a few far more often than the others; or each less often than the one before."""
     if kind == "near-equal":
         return [1000] * candidates
     if kind == "few strong":
@@ -59,7 +59,7 @@ def write_ballots(path, candidates, ballots, kind=""):
 
 
 def write_pool(path, weights, most, ballots):
-    """Candidates who are ranked as often as these weights say, up to so many on a ballot."""
+    """Writes ballots on which candidates are ranked as often as these weights say, at most this many on a ballot."""
     candidates = len(weights)
     draws = Draws(candidates)
     rankings = pool(draws, weights, 50_000, most)
@@ -71,7 +71,7 @@ def write_pool(path, weights, most, ballots):
 
 
 def run(command):
-    """Seconds, peak memory in bytes and exit status."""
+    """The seconds, the peak memory in bytes and the exit status."""
     start = time.monotonic()
     pid = os.fork()
     if pid == 0:

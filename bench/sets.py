@@ -1,16 +1,17 @@
 #!/usr/bin/env python3
-"""Times `raire search` and `raire check` by `--sets`, on contests of many candidates that are made the same at every run.
+"""Times `raire search` and `raire check` by `--sets`, on contests of many candidates that are the same at every run.
 
-For each contest it prints the seconds of a search with `--sets 1048576` at one worker and at four, how many assertions there are and how
-many MB they take, the peak memory of the search at one worker, its status; then seconds, memory and status of a check of what was printed
-(`too long` where the file has more bytes than are read), and seconds and status of a search by the default of `--nodes`, at one worker and at
-four: many of these are out of budget (status 4). The least of three runs counts, of one run where it took more than ten seconds. A run of more than SECONDS, 300 if none are given, is ended and told; one
-that wants more than MEGABYTES, 8,000 if none are given, gets no more (status 9): 20 nearly equal candidates have millions of assertions.
+For each contest it prints the seconds of a search with `--sets 1048576` with one worker and with four, how many assertions there are and how many MB they
+take, the peak memory of the search with one worker, and its status. Then come the seconds, memory and status of a check of what was printed (`too long` if
+the file has more bytes than are read), and the seconds and status of a search with the default of `--nodes`, with one worker and with four. Many of these are
+out of budget (status 4). The best of three runs counts, or the only run if it took more than ten seconds. A run of more than SECONDS (300 by default) is
+ended, and a line says so. A run that needs more than MEGABYTES (8,000 by default) gets no more (status 9): 20 nearly equal candidates have millions of
+assertions.
 
     bench/sets.py                                    all contests
-    bench/sets.py "landslide 12" "near-equal 15"     those of these names
+    bench/sets.py "landslide 12" "near-equal 15"     the contests with these names
     bench/sets.py --beside 'PROGRAM search {} --nodes 200000'
-        times another command too, after which `{}` is the ballot file; its environment is this one's
+        times another command too, in which `{}` is the ballot file; its environment is this one's
 """
 import argparse
 import os
@@ -30,9 +31,9 @@ from limits import MOST_FILE_BYTES, MOST_SETS  # noqa: E402
 
 BALLOTS, LONG = 100_000, 10
 
-# Of each contest how often each candidate is ranked, and up to how many candidates a ballot ranks.
+# For each contest, how often each candidate is ranked, and how many candidates a ballot ranks at most.
 CONTESTS = {
-    "landslide 12": ([1000, 300] + [70] * 10, 12),  # one with half of the first preferences, ten small equal ones
+    "landslide 12": ([1000, 300] + [70] * 10, 12),  # one candidate has half of the first preferences, and ten small ones are equal
     "landslide 16": ([1000, 300] + [50] * 14, 16),
     "near-equal 12": (weights_of(12, "near-equal"), 12),
     "near-equal 15": (weights_of(15, "near-equal"), 15),
@@ -47,7 +48,7 @@ CONTESTS = {
 
 
 class Ran:
-    """One run: seconds, peak memory in bytes and status, which is None where it was ended."""
+    """One run: seconds, peak memory in bytes and status, which is None if the run was ended."""
 
     def __init__(self, words, output, most, memory):
         began = time.monotonic()
@@ -63,7 +64,7 @@ class Ran:
         try:
             os.dup2(os.open(output, os.O_WRONLY | os.O_CREAT | os.O_TRUNC, 0o644), 1)
             os.dup2(os.open(os.devnull, os.O_WRONLY), 2)
-            signal.alarm(most)  # the command has it too
+            signal.alarm(most)  # the command keeps this alarm
             resource.setrlimit(resource.RLIMIT_AS, (memory, memory))
             os.execvp(words[0], words)
         finally:
@@ -91,7 +92,7 @@ def checked(ballots, printed, *most):
 
 
 def assertions_in(path):
-    """How many there are: a large file isn't read as JSON."""
+    """How many assertions there are. A large file isn't read as JSON."""
     with open(path, "rb") as file:
         text = file.read()
     return text.count(b'"kind"')

@@ -1,10 +1,10 @@
 #!/usr/bin/env python3
-"""Times `./raire state` against its single runs of the program, typed one after the other.
+"""Times `./raire state` against its single runs of the program, typed in order.
 
-    bench/state.py [PROGRAM [CONTESTS [COUNTIES]]]   a state of 1,000 contests in 200 counties, if no number is given, in five parts. Each part is made by
-                                                     `./raire state --jobs 1 --without-pages`, and then its runs alone, both on one processor. Prints the
-                                                     seconds by the clock and of the processor, and those of Snakemake's start, once a part
-                                                     (a run that has one job to do, whose outputs are there, less a run that has none)
+    bench/state.py [PROGRAM [CONTESTS [COUNTIES]]]   makes a state (1,000 contests in 200 counties by default) in five parts. Each part is made by
+                                                     `./raire state --jobs 1 --without-pages`, and then by its runs alone, both on one processor.
+                                                     Prints the seconds by the clock and of the processor, and those of Snakemake's start, once a
+                                                     part (a run that has one job to do, whose outputs exist, less a run that has none)
 """
 import json
 import os
@@ -24,7 +24,7 @@ PARTS = 5
 
 
 def timed(does):
-    """Seconds by the clock, and of the processor in all that was begun."""
+    """The seconds by the clock, and the processor seconds of all processes that were started."""
     before, start = resource.getrusage(resource.RUSAGE_CHILDREN), time.monotonic()
     does()
     after = resource.getrusage(resource.RUSAGE_CHILDREN)
@@ -37,7 +37,7 @@ def run(folder, program, *words):
 
 
 def commands(folder):
-    """What was asked of the program, in the order of the records."""
+    """What the program was asked, in the order of the records."""
     for place, _, names in os.walk(os.path.join(folder, "made", "runs")):
         for name in sorted(names):
             if name.endswith(".json"):
@@ -66,7 +66,7 @@ def split(folder, counties):
 
 
 def start_of_engine(folder, program):
-    """The seconds of a run that has one job to do, whose outputs are there, less those of a run that has none."""
+    """The seconds of a run that has one job to do, whose outputs exist, less those of a run that has none."""
     done = os.path.join(folder, "made", "runs", "done")
     run(folder, program)
     none = timed(lambda: run(folder, program))

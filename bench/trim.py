@@ -1,13 +1,13 @@
 #!/usr/bin/env python3
-"""Times `raire trim` beside `raire check`, on the assertions that `raire search` prints of contests that are made the same at every run.
+"""Times `raire trim` and `raire check`, on the assertions that `raire search` prints for contests that are the same at every run.
 
-For each contest it prints how many assertions there are and how many are left, the seconds of `check` and of `trim`, the peak
-memory of `trim` and its status: 4 where the nodes don't suffice for a trial. The least of three runs counts.
+For each contest it prints how many assertions there are and how many are left, the seconds of `check` and of `trim`, the peak memory of `trim` and its
+status: 4 if the nodes aren't enough for a trial. The best of three runs counts.
 
     bench/trim.py              10 candidates and 200,000 ballots; 32, four of them strong; 8, 10 and 12 nearly equal ones
-    bench/trim.py equal 11     one near-equal contest of so many candidates and 100,000 ballots
-    bench/trim.py sets         12, 13 and 15 nearly equal ones, by as many sets as may be
-    bench/trim.py sets OTHER   beside the program OTHER, which is given the same words, and whether both print the same
+    bench/trim.py equal 11     one near-equal contest of this many candidates and 100,000 ballots
+    bench/trim.py sets         12, 13 and 15 nearly equal ones, with the maximum number of sets
+    bench/trim.py sets OTHER   the same, compared with the program OTHER, which is given the same words, and whether both print the same
 """
 import json
 import subprocess

@@ -1,7 +1,7 @@
 #!/usr/bin/env python3
 """Writes the rows of crates in docs/map.md from crates.txt: docs/draw_map.py writes them, --check only compares.
 
-A crate stands on crates of lower rows alone.
+A crate depends only on crates of lower rows.
 """
 import os
 import sys
@@ -11,7 +11,7 @@ BEGIN, END = "<!-- drawn by docs/draw_map.py -->\n", "<!-- end of the drawing --
 
 
 def crates():
-    """Each crate with the crates of the repository that it stands on."""
+    """Each crate with the crates of the repository that it depends on."""
     with open(os.path.join(DOCS, "..", "crates.txt")) as file:
         lines = [line.split(":") for line in file if ":" in line and not line.startswith("#")]
     deps = {line[0].split()[0]: line[1].split() for line in lines}

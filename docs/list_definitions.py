@@ -1,7 +1,7 @@
 #!/usr/bin/env python3
-"""Lists in docs/trust.md the definition files that `run` stands on: docs/list_definitions.py writes the list, --check only compares.
+"""Lists in docs/trust.md the definition files that `run` depends on: docs/list_definitions.py writes the list, --check only compares.
 
-It begins with the definitions that the contract of `run` cites, and follows what each definition names to the end. So it does for the laws that
+It begins with the definitions that the contract of `run` cites, and follows what each definition names to the end. It does the same for the laws that
 README names. A file is listed if one of its definitions is reached.
 """
 import os
@@ -23,7 +23,7 @@ def text_of(path):
 
 
 def definition_file(crate, module):
-    """The file of a module. What `declared` has, a type of the code, is in none."""
+    """The file of a module. A type of the code, which is in `declared`, is in no file."""
     parts = module.strip(".").split(".")
     for size in range(len(parts), 0, -1):
         found = f"{crate}/specs/{'/'.join(parts[:size])}.antt"
@@ -33,7 +33,7 @@ def definition_file(crate, module):
 
 
 class File:
-    """A file of definitions, or a source: what it names of other files, and the words of each of its own definitions."""
+    """A file of definitions, or a source: what it names in other files, and the words of each of its own definitions."""
 
     def __init__(self, path):
         text = text_of(path)
@@ -52,7 +52,7 @@ class File:
                 self.words.setdefault(name, []).append(block)
 
     def cited(self, name):
-        """Where what a definition of this file names is defined."""
+        """Where the definitions that a definition of this file names are."""
         if name in self.named and name not in self.words:
             yield self.named[name]
         for block in self.words.get(name, []):
@@ -67,7 +67,7 @@ class File:
 
 
 def stood_on(paths):
-    """The files with a definition that what these sources name stands on, or that these files of definitions have."""
+    """The files with a definition that these sources, or all definitions of these files of definitions, depend on."""
     files, found = {}, set()
 
     def file_of(path):
@@ -87,7 +87,7 @@ def stood_on(paths):
 
 
 def rows(paths):
-    """A row a crate, the highest first."""
+    """One row for each crate, the highest first."""
     with open(os.path.join(DOCS, "..", "crates.txt")) as file:
         order = [line.split(":")[0].split()[0] for line in file if ":" in line and not line.startswith("#")]
     for crate in reversed(order):

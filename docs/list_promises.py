@@ -1,8 +1,8 @@
 #!/usr/bin/env python3
-"""Writes the made part of docs/proofs.md and all of docs/reading.md; --check only compares.
+"""Writes the generated part of docs/proofs.md and all of docs/reading.md; --check only compares.
 
-docs/proofs.md lists each clause of `run`, each law and each public call of a crate, in the words of the comment next to it, with the definitions that
-its contract cites. docs/reading.md lists the definitions that a clause reaches, with their lines, those first that others stand on.
+docs/proofs.md lists each clause of `run`, each law and each public call of a crate, in the words of the comment next to it, with the definitions that its
+contract cites. docs/reading.md lists the definitions that a clause reaches, with their numbers of lines, first those that others build on.
 """
 import ast
 import glob
@@ -15,7 +15,7 @@ from list_definitions import CRATES, DOCS, HEAD, File
 BEGIN, END = "<!-- written by docs/list_promises.py -->\n", "<!-- end of what it writes -->\n"
 CALL, LAWS = "raire_cli/src/call.rt", "call_laws/src/laws.rt"
 EVERYWHERE = {"texts", "writing", "Rose", "files_known", "asked", "file_count", "due"}  # what many clauses cite, and none is about
-APART = ["raire_cli", "call_laws", "raire"]  # their promises have sections of their own
+APART = ["raire_cli", "call_laws", "raire"]  # their promises have their own sections
 WORD = re.compile(r"[^\s(){}\[\];,]+")
 FUNCTION = re.compile(r"^(\s*)(pub )?(?:const )?fn (\w+)")
 BLOCK = re.compile(r"^(pub )?(trait|impl)\b(.*)\{$")
@@ -28,7 +28,7 @@ def lines_of(path):
 
 
 class Promise:
-    """A call or a law with a contract: its words, and of each clause the name, the comment and the text."""
+    """A call or a law with a contract: its words, and the name, the comment and the text of each clause."""
 
     def __init__(self, name, words, owner):
         self.name, self.words, self.owner, self.clauses = name, words, owner, []
@@ -38,7 +38,7 @@ class Promise:
 
 
 def owner_of(line):
-    """The trait or the type that a block is of, and whether all its functions are public."""
+    """The trait or the type that a block belongs to, and whether all its functions are public."""
     match = BLOCK.match(line)
     if not match:
         return None
@@ -50,7 +50,7 @@ def owner_of(line):
 
 
 def promises_of(path):
-    """The public calls of a source that have a contract, in their order."""
+    """The public calls of a source that have a contract, in order."""
     owner, words, comments, promise, found = None, [], [], None, []
     for line in lines_of(path):
         text = line.strip()
@@ -158,7 +158,7 @@ def edits_of(crate):
 
 
 def section(crate):
-    """What is promised of a crate."""
+    """What is promised about a crate."""
     calls, laws, public = [], [], handed_on(crate)
     for path in sources_of(crate):
         if os.path.basename(path).startswith("examples"):
@@ -216,7 +216,7 @@ def promises():
 
 
 def tried():
-    """A row for each script of acceptance/ that runs the built program or its tools, in the first sentence of its own words."""
+    """A row for each script of acceptance/ that runs the built program or its tools, with the first paragraph of its docstring."""
     for path in sorted(glob.glob(os.path.join(DOCS, "..", "acceptance", "*.py"))):
         with open(path) as file:
             tree = ast.parse(file.read())
@@ -240,7 +240,7 @@ class Definitions:
         return self.files[path]
 
     def reached(self, heads):
-        """What these definitions, each a path and a name, stand on, and they themselves."""
+        """What these definitions, each a path and a name, depend on, and they themselves."""
         left, found = list(heads), set()
         while left:
             path, name = left.pop()
@@ -251,7 +251,7 @@ class Definitions:
         return found
 
     def lines(self, found):
-        """How many lines of their files these definitions have, comments and blank lines apart."""
+        """How many lines these definitions have in their files, not counting comments and blank lines."""
         counted = {(path, block) for path, name in found for block in self.file_of(path).words[name]}
         return sum(1 for _, block in counted for line in block.split("\n") if line.strip())
 
@@ -271,7 +271,7 @@ def of_law(path, law):
 
 
 def in_order(all_of, found):
-    """A row a file, the lowest crate first; in a crate, those files first that others of it cite."""
+    """One row for each file, the lowest crate first; within a crate, files that others cite come first."""
     order = {crate: i for i, crate in enumerate(crates())}
     by_file = {}
     for path, name in found:

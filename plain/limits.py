@@ -1,4 +1,4 @@
-"""The limits of docs/formats.md, for all of acceptance/, written down apart from the suite's own."""
+"""The limits of docs/formats.md, for all of acceptance/, written independently of the suite's own."""
 
 FEWEST_CANDIDATES, MOST_CANDIDATES = 2, 32
 MOST_CONTESTS, MOST_LISTED, MOST_RECORDS = 64, 1_000, 1_000_000

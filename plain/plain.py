@@ -1,12 +1,11 @@
 #!/usr/bin/python3
-"""The rules of docs/rules.md once more, written plainly and apart from the suite, to compare the built program with.
+"""The rules of docs/rules.md once more, written plainly and independently of the suite, to compare the built program with.
 
-Rankings are tuples of candidate numbers, orders and suffixes are tuples with the first eliminated first. A contest is
-searched by walking all suffixes in full (`certificate`) or, for larger ones, from the end under a bound
-(`certificate_by_bound`); both give the text that `raire search` prints. `tabulation` gives that of `raire tabulate`.
-`judge` reads an assertion file and walks all orders, of more than `MOST_LISTED_WHOLE` candidates those that nothing refutes; it gives
-the status and the text of `raire check`, or the rule that the file breaks and its place. Its budget is one of nodes, or of `Sets`. A search with a
-`Plan` prints version 2 of the file, with the clean draws of each margin.
+Rankings are tuples of candidate numbers. Orders and suffixes are tuples with the first eliminated candidate first. A contest is searched by walking
+all suffixes in full (`certificate`) or, for larger contests, from the end under a bound (`certificate_by_bound`). Both give the text that `raire search`
+prints. `tabulation` gives the text of `raire tabulate`. `judge` reads an assertion file and walks all orders, or, if there are more than
+`MOST_LISTED_WHOLE` candidates, those that nothing refutes. It gives the status and the text of `raire check`, or the rule that the file breaks and its
+place. Its budget is one of nodes, or of `Sets`. A search with a `Plan` prints version 2 of the file, with the clean draws of each margin.
 
     plain/plain.py search BALLOTS      plain/plain.py tabulate BALLOTS
     plain/plain.py check BALLOTS ASSERTIONS
@@ -25,7 +24,7 @@ from limits import (
 from plain_draws import clean_draws, in_words
 
 
-MOST_LISTED_WHOLE = 7  # candidates of whose contest all orders are listed
+MOST_LISTED_WHOLE = 7  # candidates; all orders of a contest with at most this many are listed
 
 
 class Contest:
@@ -36,7 +35,7 @@ class Contest:
         self.tallies = {}
 
     def tally(self, standing):
-        """The votes of each candidate where just these stand."""
+        """The votes of each candidate when exactly these are standing."""
         if standing not in self.tallies:
             votes = dict.fromkeys(standing, 0)
             for ranking, count in self.rankings.items():
@@ -61,20 +60,20 @@ class Contest:
 
 
 class Tie(Exception):
-    """Ways of breaking the ties elect different candidates; the text tells the first tie."""
+    """Some ways of breaking the ties elect different candidates; the text reports the first tie."""
 
 
 def least_of(contest, standing):
-    """The least tally where just these stand, and those who have it."""
+    """The smallest tally when exactly these are standing, and those who have it."""
     votes = contest.tally(standing)
     least = min(votes.values())
     return least, sorted(c for c in standing if votes[c] == least)
 
 
 def tabulated(contest):
-    """The order of elimination, with each round's tallies, exhausted ballots and those who share the least tally.
+    """The order of elimination, with each round's tallies, exhausted ballots and those who share the smallest tally.
 
-    Of several with the least tally the first of the file is eliminated.
+    If several have the smallest tally, the first of them in the file is eliminated.
     """
     standing, order, rounds = frozenset(range(contest.n)), [], []
     while len(standing) > 1:
@@ -86,7 +85,7 @@ def tabulated(contest):
 
 
 def possible_winners(contest):
-    """Who wins where each tie is broken in every way: a set of candidates."""
+    """The set of candidates who can win, over all ways of breaking each tie."""
     known = {}
 
     def from_here(standing):
@@ -99,7 +98,7 @@ def possible_winners(contest):
 
 
 def decided(contest):
-    """The tabulated order and its rounds, if each way of breaking the ties elects the same candidate; else Tie with the first."""
+    """The tabulated order and its rounds if each way of breaking the ties elects the same candidate; otherwise raises Tie with the first tie."""
     order, rounds = tabulated(contest)
     if len(possible_winners(contest)) > 1:
         number, (votes, _, tied) = next((number, told) for number, told in enumerate(rounds, 1) if len(told[2]) > 1)
@@ -158,7 +157,7 @@ class Lows:
         return best
 
     def grown(self, parent, parent_low, c):
-        """The same for the parent with c in front: what is new refutes by c alone."""
+        """The same for the parent with c in front: what refutes in addition does so because of c."""
         suffix, best = (c,) + parent, parent_low
         new = [("NEB", w, c) for w in range(self.contest.n) if w not in suffix]
         new += [("NEN", c, l, frozenset(suffix)) for l in parent]
@@ -170,7 +169,7 @@ class Lows:
 
 
 class Plan(NamedTuple):
-    """What the clean draws of version 2 are of: cards, risk limit in millionths, gamma in thousandths."""
+    """The terms of the clean draws of version 2: cards, risk limit in millionths, gamma in thousandths."""
 
     cards: int
     limit: int
@@ -205,7 +204,7 @@ def text_of(contest, winner, best, order, claims, plan):
 
 
 def certificate(contest, plan=None):
-    """By the definition alone: every order, every suffix, every assertion that refutes it."""
+    """The certificate directly from the definition: every order, every suffix, every assertion that refutes it."""
     tabulated_order, _ = decided(contest)
     winner, n, lows = tabulated_order[-1], contest.n, Lows(contest)
     orders = [order for order in itertools.permutations(range(n)) if order[-1] != winner]
@@ -223,7 +222,7 @@ def certificate(contest, plan=None):
 
 
 def certificate_by_bound(contest, plan=None):
-    """The same from the end, under a bound, for contests whose orders are too many."""
+    """The same from the end, under a bound, for contests with too many orders."""
     tabulated_order, _ = decided(contest)
     winner, n, lows = tabulated_order[-1], contest.n, Lows(contest)
     losers = [c for c in range(n) if c != winner]
@@ -285,7 +284,7 @@ class Refused(Exception):
 
 
 def whole(digits):
-    """A whole number, or the float that stands for one with a sign or above 64 bits: that is no number of the form."""
+    """A whole number; or, if it has a sign or more than 64 bits, a float, which isn't a number in the file's form."""
     if digits.isdigit() and int(digits) < 2**64:
         return int(digits)
     return finite(digits)
@@ -309,7 +308,7 @@ def text_alone(value):
 
 
 def depth(text):
-    """The deepest nesting of brackets that stand outside of texts."""
+    """The deepest nesting of brackets outside of texts."""
     deepest = level = 0
     for token in re.findall(r'"(?:[^"\\]|\\.)*"|[\[{]|[\]}]', text, re.DOTALL):
         level += {"[": 1, "{": 1, "]": -1, "}": -1}.get(token, 0)
@@ -318,7 +317,7 @@ def depth(text):
 
 
 def json_value(data):
-    """The value of the bytes. Of a repeated name the last member stands, but each has to be JSON."""
+    """The value of the bytes. If a name is repeated, the last member counts, but each must be JSON."""
     text = data.decode()
     if depth(text) > MOST_DEPTH:
         raise ValueError("nested too deep")
@@ -350,7 +349,7 @@ def are_texts(value):
 
 
 def has(value, kinds):
-    """The value is an object that has each of these members, of its kind."""
+    """Whether the value is an object that has each of these members, of its kind."""
     return type(value) is dict and all(name in value and kind(value[name]) for name, kind in kinds.items())
 
 
@@ -360,16 +359,16 @@ HEADING = {
 }
 ENTRY = {"kind": lambda kind: kind in ("NEB", "NEN"), "winner": is_text, "loser": is_text, "margin": is_number}
 
-# What belongs to a plan. In version 1 these are further members, which say nothing; version 2 has them all, version 3 all or none.
+# What belongs to a plan. In version 1 these are further members, which mean nothing; version 2 has them all, version 3 all or none.
 PLAN_HEADING = {name: is_number for name in Plan._fields}
 PLAN_ENTRY = {"draws": lambda draws: draws is None or is_number(draws)}
 
-# A file of this version has no order, and all others have one.
+# A file of this version has no order; all others have one.
 COVER_VERSION = 3
 
 
 def is_planned(value):
-    """The file has a plan, or says so by one of its members."""
+    """Whether the file has a plan, or claims to have one by one of its members."""
     return value["version"] == 2 or (value["version"] == COVER_VERSION and not value.keys().isdisjoint(Plan._fields))
 
 
@@ -396,12 +395,12 @@ def judge_heading(value):
 
 
 def are_terms(value):
-    """Each record may have a card of its own, and limit and gamma are in their ranges."""
+    """Whether each record can have its own card, and limit and gamma are in range."""
     return value["records"] <= value["cards"] <= MOST_CARDS and 1 <= value["gamma"] <= GREATEST_GAMMA and 1 <= value["limit"] <= GREATEST_LIMIT
 
 
 def claim_of(value, file, at):
-    """The assertion and the margin that is claimed for it."""
+    """The assertion, and the margin that is claimed for it."""
     ids, planned = file["candidates"], is_planned(file)
     if not has(value, {**ENTRY, **(PLAN_ENTRY if planned else {})}) or (value["kind"] == "NEN" and not has(value, {"rest": are_texts})):
         raise Refused("F2", at)
@@ -452,7 +451,7 @@ def shown(contest, assertion):
 
 
 def least_standing(contest, winner, claims):
-    """Of the orders that elect another candidate and that no claim refutes, the least read backwards, or None."""
+    """Among the orders that elect another candidate and that no claim refutes, the smallest when read backwards, or None."""
     standing = [
         order for order in itertools.permutations(range(contest.n))
         if order[-1] != winner and not any(refutes(assertion, order) for assertion, _ in claims)
@@ -461,7 +460,7 @@ def least_standing(contest, winner, claims):
 
 
 def standing_suffixes(contest, last, claims, before):
-    """The suffixes that end in the candidate, aren't whole, and that no claim refutes; just those before this order."""
+    """The suffixes that end in the candidate, aren't whole, and that no claim refutes; only those before this order."""
     others = [c for c in range(contest.n) if c != last]
     for size in range(contest.n - 1):
         for front in itertools.permutations(others, size):
@@ -471,11 +470,11 @@ def standing_suffixes(contest, last, claims, before):
 
 
 class Sets(int):
-    """A budget of so many sets of candidates for all orders together, in place of one of nodes for each candidate who didn't win."""
+    """A budget of this many sets of candidates for all orders together, instead of one of nodes for each candidate who didn't win."""
 
 
 def unproved(contest, winner, claims, budget):
-    """The status and the text where an order stands, or the budget ends before that is known; None where the claims prove the winner."""
+    """The status and the text if an order stands, or if the budget ends before that is known; None if the claims prove the winner."""
     is_listed = contest.n <= MOST_LISTED_WHOLE
     if isinstance(budget, Sets):
         return (unproved_by_list_of_sets if is_listed else unproved_by_walk_of_sets)(contest, winner, claims, budget)
@@ -491,7 +490,7 @@ def spent_sets(sets):
 
 
 def unproved_by_list(contest, winner, claims, nodes):
-    """By the definition alone: every order, every suffix."""
+    """The same directly from the definition: every order, every suffix."""
     standing = least_standing(contest, winner, claims)
     for last in range(contest.n):
         if last != winner and sum(1 for _ in standing_suffixes(contest, last, claims, standing)) > nodes:
@@ -500,7 +499,7 @@ def unproved_by_list(contest, winner, claims, nodes):
 
 
 def unproved_by_walk(contest, winner, claims, nodes):
-    """The same from the end, candidates in number order, no further than a suffix that some claim refutes."""
+    """The same from the end, with candidates in number order, no further than a suffix that some claim refutes."""
     assertions = [assertion for assertion, _ in claims]
     for last in range(contest.n):
         stack, count = [(last,)] * (last != winner), 0
@@ -518,7 +517,7 @@ def unproved_by_walk(contest, winner, claims, nodes):
 
 
 def unproved_by_list_of_sets(contest, winner, claims, sets):
-    """By the definition alone: every order, and the set of each suffix that counts."""
+    """The same directly from the definition: every order, and the set of each suffix that counts."""
     standing = least_standing(contest, winner, claims)
     others = [last for last in range(contest.n) if last != winner]
     found = {frozenset(suffix) for last in others for suffix in standing_suffixes(contest, last, claims, standing)}
@@ -528,7 +527,7 @@ def unproved_by_list_of_sets(contest, winner, claims, sets):
 
 
 def unproved_by_walk_of_sets(contest, winner, claims, sets):
-    """The same from the end, into each set once: what refutes by one more candidate in front hangs on the set behind alone."""
+    """The same from the end, into each set once: what refutes because of one more candidate in front depends only on the set behind."""
     rivals, nexts = {}, set()
     for kind, w, l, *rest in (assertion for assertion, _ in claims):
         if kind == "NEB":
@@ -572,7 +571,7 @@ def difference(contest, file, budget):
 
 
 def not_best(contest, winner, file):
-    """Why the file's order doesn't show that its margin is the best, or None. Without an order nothing is said of that."""
+    """Why the file's order doesn't show that its margin is the best, or None. Nothing is said of that without an order."""
     if file["order"] is None:
         return None
     order = tuple(map(contest.ids.index, file["order"]))
@@ -585,7 +584,7 @@ def not_best(contest, winner, file):
 
 
 def other_draws(file):
-    """The first assertion of a plan whose draws aren't the clean draws of its margin, or None."""
+    """The answer for the first assertion of a plan whose draws aren't the clean draws of its margin, or None."""
     for number, ((_, margin), claimed) in enumerate(zip(file["assertions"], file["draws"] or []), 1):
         needed = file["plan"].draws(margin)
         if needed != claimed:
@@ -594,7 +593,7 @@ def other_draws(file):
 
 
 def judge(contest, data, budget=DEFAULT_NODES):
-    """The status and the text of a check of the assertion file with these bytes. It may be Refused."""
+    """The status and the text of a check of the assertion file with these bytes. The file may be Refused."""
     file = read_assertions(data)
     lines = f"yes\nassertions {len(file['assertions'])}\nmargin {file['margin']}\n"
     if file["order"] is None:
@@ -605,7 +604,7 @@ def judge(contest, data, budget=DEFAULT_NODES):
 # ---- the command
 
 def read(path):
-    """A file of one contest with plain fields."""
+    """Reads a file of one contest with plain fields."""
     with open(path) as file:
         rows = [line.split(",") for line in file.read().splitlines() if line.strip()]
     _, name, count, *rest = rows[1]

@@ -1,8 +1,8 @@
 #!/usr/bin/python3
-"""What claims are adopted as, by docs/formats.md and docs/rules.md alone: every claim by itself, every order.
+"""What claims are adopted as, directly from docs/formats.md and docs/rules.md: every claim by itself, every order.
 
-A claims file names assertions for a contest. Nothing of it is read but `candidates`, `contest`, `winner` and, of each assertion, `kind`,
-`winner`, `loser` and `rest`. `adopted` gives the status and the text of `raire adopt`, or the rule that the file breaks and its place.
+A claims file names assertions for a contest. Only `candidates`, `contest`, `winner` and the `kind`, `winner`, `loser` and `rest` of each assertion are
+read from it. `adopted` gives the status and the text of `raire adopt`, or the rule that the file breaks and its place.
 
     plain/plain_adopt.py BALLOTS CLAIMS
 """
@@ -26,7 +26,7 @@ def judge_heading(value, contest):
 
 
 def claim_of(value, ids, at):
-    """The assertion that is claimed, as `plain` has it."""
+    """The assertion that is claimed, in the form that `plain` uses."""
     if not plain.has(value, ENTRY) or (value["kind"] == "NEN" and not plain.has(value, {"rest": plain.are_texts})):
         raise plain.Refused("C2", at)
     kind, winner, loser = value["kind"], value["winner"], value["loser"]
@@ -57,7 +57,7 @@ def entry_of(contest, assertion):
 
 
 def file_of(contest, winner, assertions):
-    """The assertion file of version 3 that has these."""
+    """The assertion file of version 3 with these assertions."""
     entries = [entry_of(contest, assertion) for assertion in assertions]
     value = {
         "assertions": entries, "candidates": contest.ids, "contest": contest.name, "margin": min(entry["margin"] for entry in entries),

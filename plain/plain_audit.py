@@ -1,10 +1,9 @@
 #!/usr/bin/python3
-"""The whole suite once more, written plainly and apart from it: every command from its words to its texts.
+"""The whole suite once more, written plainly and independently: every command from its words to its texts.
 
-It follows docs/formats.md and docs/rules.md with hashlib and whole numbers alone, and takes from plain.py how contests
-are searched and assertion files judged. `run` gives the status and the two texts of a line of words, as `raire` does,
-save that it never lacks memory and that no search by nodes is ever spent. A check walks all orders, so it is for contests of up
-to seven candidates or so; with sets both are for up to sixteen.
+It follows docs/formats.md and docs/rules.md with only hashlib and whole numbers, and uses plain.py to search contests and judge assertion files. `run`
+gives the status and the two texts for a line of words, as `raire` does, except that it never lacks memory and that no search by nodes is ever out of
+budget. A check walks all orders, so it is for contests of up to about seven candidates; with sets, searches and checks are for up to sixteen.
 
     plain/plain_audit.py COMMAND FILES.. OPTIONS..
 """
@@ -54,7 +53,7 @@ def refused(path, text):
 # ---- comma-separated files
 
 def rows_of(text):
-    """The records of a text: a quote opens a field, two of them in it stand for one, and what follows the second is plain."""
+    """The records of a text: a quote opens a field, two quotes in it stand for one, and what follows the closing quote is plain."""
     row, field, state = [], "", "row"
     for c in text:
         if state == "row":
@@ -85,7 +84,7 @@ def rows_of(text):
 
 
 def numbered(data):
-    """The numbered records of a file, one after the other, with the blanks taken off round their fields."""
+    """The records of a file, in order, with the blanks around their fields removed."""
     for _ in range(2):
         data = data[len(MARK):] if data.startswith(MARK) else data
     for row in rows_of(data.decode("latin-1")):
@@ -116,7 +115,7 @@ class Ballots(plain.Contest):
 
 
 def contest_records(records):
-    """Of each contest, in order, its id, its candidates and its record number."""
+    """The id, the candidates and the record number of each contest, in order."""
     count = number_in(records[0][0], 1, MOST_CONTESTS) if records else None
     if count is None:
         raise Broken("B1", 1)
@@ -136,13 +135,13 @@ def contest_records(records):
 
 
 def ranking_of(fields, places):
-    """Each candidate at its first place; None where a preference is no candidate."""
+    """Each candidate at its first place; None if a preference isn't a candidate."""
     ranked = [field for field in fields if field]
     return tuple(dict.fromkeys(places[field] for field in ranked)) if set(ranked) <= set(places) else None
 
 
 def ballots_of(data, asked):
-    """The contest that is asked for, or the file's only one."""
+    """The contest that is asked for, or the file's only contest."""
     records = records_of(data)
     contests = contest_records(records)
     if asked not in contests and (asked is not None or len(contests) > 1):
@@ -152,14 +151,14 @@ def ballots_of(data, asked):
 
 
 def contests_of(data):
-    """All contests of the file, in its order."""
+    """All contests of the file, in order."""
     records = records_of(data)
     contests = contest_records(records)
     return kept_of(records, contests, list(contests))
 
 
 def kept_of(records, contests, asked):
-    """Those contests that are asked for, each with its own ballots; the ballots of all are judged."""
+    """The contests that are asked for, each with its own ballots; the ballots of all contests are judged."""
     for ids, at in map(contests.get, asked):
         if not FEWEST_CANDIDATES <= len(ids) <= MOST_CANDIDATES:
             raise Broken("B3", at)
@@ -252,7 +251,7 @@ def seen_of(data, manifest, ids):
 
 
 def see(seen, places, manifest, at, row):
-    """One record more: a card, a word and a ranking."""
+    """Adds one more record: a card, a word and a ranking."""
     if not is_seen(row):
         raise Broken("V1", at)
     card = manifest.place(row[0])
@@ -271,7 +270,7 @@ def is_seen(row):
 
 
 def seen_by(data, manifest, contests):
-    """Of each contest, by its id, what was seen of each card: in a record the contest's id stands behind the card's."""
+    """What was seen of each card, for each contest by its id; in a record, the contest's id comes after the card's."""
     places = {each.name: {c: place for place, c in enumerate(each.ids)} for each in contests}
     seen = {name: {} for name in places}
     for at, (card, *names, row) in enumerate(map(without_contest, records_of(data)), 1):
@@ -286,7 +285,7 @@ def seen_by(data, manifest, contests):
 
 
 def without_contest(row):
-    """The card, the contest where there is one, and the record without it."""
+    """The card, the contest if there is one, and the record without it."""
     return row[0], *row[1:2], row[:1] + row[2:]
 
 
@@ -315,7 +314,7 @@ ROUND = {"counts": plain.is_list, "draws": is_from(1, MOST_DRAWS), "risks": plai
 
 
 def confirmed(session, claim, rounds):
-    """The claim's risk was within the limit at the end of one of these rounds."""
+    """Whether the claim's risk was within the limit at the end of one of these rounds."""
     return any(done["risks"][claim] <= session["limit"] * 10**12 for done in rounds)
 
 
@@ -325,7 +324,7 @@ def is_signed_off(session):
 
 
 def is_round(session, done, had):
-    """The round has more draws than before, and of each claim five counts of them with their risk."""
+    """Whether the round has more draws than before, and has for each claim five counts that add up to them, with their risk."""
     if not plain.has(done, ROUND) or done["draws"] <= had:
         return False
     margins = session["margins"]
@@ -342,7 +341,7 @@ def is_round(session, done, had):
 
 
 def session_of(data):
-    """The session, or None where it breaks S1."""
+    """The session, or None if it breaks S1."""
     try:
         session = plain.json_value(data)
     except (ValueError, RecursionError):
@@ -383,7 +382,7 @@ def read(path):
 
 
 def judged(path, judge, *given):
-    """What `judge` makes of a file, or the file's refusal."""
+    """The result of `judge` for a file, or the file's refusal."""
     try:
         return judge(*given)
     except (Broken, plain.Refused) as broken:
@@ -462,7 +461,7 @@ def plan(options, manifest_path, path):
 
 
 def poll_files(options, manifest_path, path, seen_path):
-    """The manifest, the assertion file, its contest and what is seen, or the end of the call: the assertions have to prove their winner."""
+    """The manifest, the assertion file, its contest and what is seen, or the end of the call: the assertions must prove their winner."""
     manifest = judged(manifest_path, manifest_of, read(manifest_path))
     file = judged(path, plain.read_assertions, read(path))
     contest = plain.Contest(file["contest"], file["candidates"], [])
@@ -482,7 +481,7 @@ def poll(options, manifest_path, path, seen_path):
 
 
 def poll_each(options, manifest_path, path, seen_path):
-    """The same with a look after each draw. Cards without a record are told of only up to the draw that confirms the last assertion."""
+    """The same with a look after each draw. Cards without a record are reported only up to the draw that confirms the last assertion."""
     manifest, file, contest, seen = poll_files(options, manifest_path, path, seen_path)
     limit, gamma, seed = options.get("limit", 50_000), options.get("gamma", 100), options["seed"]
     gammas = [plain_poll.best_gamma(manifest.cards, margin) if gamma == "best" else gamma for _, margin in file["assertions"]]
@@ -499,7 +498,7 @@ def poll_each(options, manifest_path, path, seen_path):
 
 
 def accepted(contest, path, data, budget):
-    """The assertion file, or the end of the call with what a check of it finds first."""
+    """The assertion file, or the end of the call with what a check finds first."""
     status, text = judged(path, plain.judge, contest, data, budget)
     if status:
         raise End(status, out=text)
@@ -511,7 +510,7 @@ def digest(data):
 
 
 def opened(options, contest, cards, margins, ballots, manifest, assertions):
-    """A session without rounds, of files with these bytes."""
+    """A session without rounds, for files with these bytes."""
     return {
         "assertions": digest(assertions), "ballots": digest(ballots), "cards": cards.cards, "contest": contest.name,
         "gamma": options.get("gamma", 100), "limit": options.get("limit", 50_000), "manifest": digest(manifest), "margins": margins,
@@ -546,7 +545,7 @@ def counts_of(session, recorded, seen, assertion, draws):
 
 
 def see_all(path, seed, cards, seen, draws):
-    """V4, where the card of a draw has no record."""
+    """Raises V4 if the card of a draw has no record."""
     for k in range(1, draws + 1):
         card = drawn(seed, k, cards)
         if card not in seen:
@@ -583,14 +582,14 @@ def to_go_on(path, draws):
 
 
 def placed(session, ballots, manifest):
-    """The contest and the cards of a session, and what is recorded of them."""
+    """The contest and the cards of a session, and what is recorded for them."""
     contest = judged(ballots, ballots_of, same(ballots, read(ballots), session["ballots"]), session["contest"])
     cards = judged(manifest, manifest_of, same(manifest, read(manifest), session["manifest"]))
     return contest, cards, judged(ballots, linked, contest, cards)
 
 
 def further_round(session, session_path, contest, cards, recorded, claims, seen, draws):
-    """The session with a round more, where its facts are those of the other files."""
+    """The session with one more round, if its facts are those of the other files."""
     if session["cards"] != cards.cards or session["margins"] != [margin for _, margin in claims]:
         raise refused(session_path, "S5")
     cards_seen = judged(seen, seen_of, read(seen), cards, contest.ids)
@@ -638,7 +637,7 @@ def report(options, path):
 
 
 def trial_rankings(number, n, ballots):
-    """A length, and for each place the smaller of two draws; a repeated candidate is dropped."""
+    """Rankings from a generator: a length, and for each place the smaller of two draws; a repeated candidate is dropped."""
     state, rankings = number, []
 
     def draw():
@@ -703,11 +702,11 @@ KINDS = {
     "ballots": as_number(1, MOST_RECORDS),
 }
 
-# with the flag, which has no value, a gamma may be larger, or the one that fits
+# with the flag, which has no value, gamma may be larger, or the one that fits
 FLAG = "each"
 EACH_KINDS = {**KINDS, "gamma": lambda text: text if text == "best" else number_in(text, 1, GREATEST_EACH_GAMMA)}
 
-# the call, the number of its files, the options that must be given, those that may be
+# the call, the number of its files, the options that must be given, and those that may be given
 COMMANDS = {
     "tabulate": (tabulate, 1, "", "contest nodes"),
     "search": (search, 1, "", "contest workers nodes sets floor"),
@@ -725,7 +724,7 @@ COMMANDS = {
     "contests": (contests, 3, "seed draws", "limit gamma workers nodes"),
 }
 
-# a word's second line: of another number of files, or with an option that others want
+# the second form of a command: with another number of files, or with an option that others need
 SECOND = {
     "plurality": (audit_plurality, 4, "draws", ""), "search": (search, 1, "cards", "contest workers nodes sets floor limit gamma"),
     "poll": (poll_each, 3, "seed draws each", "limit gamma nodes"),
@@ -733,13 +732,13 @@ SECOND = {
 
 
 def line_of(words):
-    """The call of a line with its files and the values of its options, or None where the words are no line."""
+    """The call of a line with its files and the values of its options, or None if the words aren't a line."""
     forms = [table[words[0]] for table in (COMMANDS, SECOND) if words and words[0] in table]
     return next(filter(None, (line_in(form, words[1:]) for form in forms)), None)
 
 
 def line_in(form, words):
-    """The same of the words after a command's word, by one of its forms."""
+    """The same for the words after a command's word, in one of its forms."""
     call, count, must, may = form
     files, options, rest = [], {}, list(words)
     kinds = EACH_KINDS if FLAG in must.split() else KINDS
@@ -768,7 +767,7 @@ def line_in(form, words):
 
 
 def run(words):
-    """The status, and what standard output and standard error take."""
+    """The status, and what is written to standard output and standard error."""
     line = line_of(words)
     if line is None:
         return 1, "", "raire: bad words\n"

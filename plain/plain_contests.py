@@ -1,7 +1,7 @@
-"""All contests of a file on one sample, by their definition alone: how each ends, and the lines of its block.
+"""All contests of a file on one sample, directly from the definition: how each ends, and the lines of its block.
 
-Each contest is searched as a search of it alone would, with a floor of one vote. One that isn't decided has the lines of its first tie in
-its block; another one has its claims, each with the counts and the risk of the drawn cards, and is signed off where all of them are confirmed.
+Each contest is searched as if by itself, with a floor of one vote. The block of a contest that isn't decided has the lines of its first tie. Any other
+block has the contest's claims, each with the counts and the risk of the drawn cards; the contest is signed off if all are confirmed.
 """
 import json
 from typing import NamedTuple
@@ -38,7 +38,7 @@ def block(contest, end, told, limit):
 
 
 def printed(blocks):
-    """Status and text of all blocks."""
+    """The status and the text of all blocks."""
     is_all = all(is_signed_off for _, is_signed_off in blocks)
     lines = [line for told, _ in blocks for line in told] + [f"all {'yes' if is_all else 'no'}"]
     return 0 if is_all else 10, "".join(f"{line}\n" for line in lines)

@@ -1,11 +1,11 @@
 #!/usr/bin/python3
 """The fewest NENs of a contest, plainly and in two ways.
 
-`by_choice` writes down every order that elects another candidate and which NENs of at least the least margin refute it, and tries choices of NENs until
-the fewest are found that refute each order which no NEB of at least that margin refutes. The least margin is the best one, or less by a gap.
+`by_choice` writes down every order that elects another candidate, and which NENs of at least the least margin refute it. It tries choices of NENs until it
+finds the fewest that refute each order that no NEB of at least that margin refutes. The least margin is the best one, or smaller by a gap.
 
-`by_flow` counts them as what can flow between sets of candidates, from nobody's set to that of all: a step that such a NEB refutes lets nothing through,
-one that such a NEN refutes lets one through, and any other one lets any number through. Neither looks at what the suite prints.
+`by_flow` counts them as what can flow between sets of candidates, from the empty set to the set of all: a step that such a NEB refutes lets nothing
+through, one that such a NEN refutes lets one through, and any other step lets any number through. Neither looks at what the suite prints.
 
     plain/plain_fewest.py BALLOTS [GAP]
 """
@@ -20,12 +20,12 @@ import plain_sets
 
 
 def least_margin(best, gap):
-    """The best margin less that many thousandths of it, rounded up, and at least one vote."""
+    """The best margin less this many thousandths of it, rounded up, and at least one vote."""
     return max(1, best - best * gap // 1000)
 
 
 def nebs(contest, least):
-    """Each NEB whose margin is at least that one."""
+    """Each NEB whose margin is at least this one."""
     pairs = itertools.permutations(range(contest.n), 2)
     return [("NEB", w, l) for w, l in pairs if contest.margin(("NEB", w, l)) >= max(least, 1)]
 
@@ -45,7 +45,7 @@ def refuted(n, winner, assertion):
 
 
 def nen_choices(contest, winner, least):
-    """Which orders a NEN of the margin refutes, each set of them once."""
+    """The orders that each NEN of the margin refutes, with each set of orders once."""
     found = set()
     for size in range(2, contest.n + 1):
         for rest in map(frozenset, itertools.combinations(range(contest.n), size)):
@@ -63,7 +63,7 @@ def places_of(bits):
 
 
 class Choices:
-    """The fewest sets that together have all of some places, by trying."""
+    """The fewest sets that together have all of some places, found by trying."""
 
     def __init__(self, sets):
         self.by_place = {}
@@ -73,7 +73,7 @@ class Choices:
         self.beside = {at: functools.reduce(int.__or__, having) for at, having in self.by_place.items()}
 
     def apart(self, left):
-        """Some places of which no two are in one set: there have to be as many sets."""
+        """A number of places no two of which are in one set: at least that many sets are needed."""
         count = 0
         while left:
             at = min(places_of(left), key=lambda at: self.beside[at].bit_count()) if count == 0 else (left & -left).bit_length() - 1
@@ -94,13 +94,13 @@ class Choices:
 
 
 def by_choice(contest, winner, least):
-    """How many NENs there have to be, beside all NEBs of the margin, so that each order is refuted."""
+    """How many NENs are needed, besides all NEBs of the margin, so that each order is refuted."""
     n = contest.n
     left = (1 << len(orders_of(n, winner))) - 1
     for assertion in nebs(contest, least):
         left &= ~refuted(n, winner, assertion)
     sets = {chosen & left for chosen in nen_choices(contest, winner, least)} - {0}
-    # What another set has all of is never needed.
+    # A set is never needed if another set has all of its places.
     widest = [chosen for chosen in sets if not any(chosen != other and chosen & other == chosen for other in sets)]
     return Choices(widest).fewest(left)
 
@@ -109,19 +109,19 @@ def by_choice(contest, winner, least):
 
 
 class Steps:
-    """Which steps of a set there are, and which of them a NEN can cut; sets are bits. A step puts a candidate in front of a set."""
+    """Which steps from a set exist, and which of them a NEN can cut; sets are bits. A step puts a candidate in front of a set."""
 
     def __init__(self, contest, winner, least):
         self.n, self.all, self.winner, self.least = contest.n, (1 << contest.n) - 1, winner, max(least, 1)
         self.sums = plain_sets.Steps(contest)
-        # The winners of NEBs over a candidate have to be there before it may be put in front.
+        # The winners of NEBs over a candidate must be there before the candidate may be put in front.
         self.needs = [0] * contest.n
         for _, w, l in nebs(contest, least):
             self.needs[l] |= 1 << w
         self.known = {}
 
     def on(self, behind):
-        """The steps from a set that no NEB refutes, each with whether a NEN can cut it."""
+        """The steps from a set that no NEB refutes, and for each whether a NEN can cut it."""
         if behind not in self.known:
             outside = [c for c in range(self.n) if not behind >> c & 1 and (behind or c != self.winner)]
             self.known[behind] = {c: self.is_cuttable(behind, c) for c in outside if not self.needs[c] & ~(behind | 1 << c)}
@@ -135,7 +135,7 @@ class Steps:
 
 
 class Flow:
-    """What flows over each step, as much as can."""
+    """What flows over each step, as much as possible."""
 
     def __init__(self, steps):
         self.steps, self.over, self.value = steps, Counter(), 0
@@ -161,7 +161,7 @@ class Flow:
             self.into[behind | 1 << c].discard(c)
 
     def pour(self, behind, dead):
-        """One more by steps on alone, from this set to that of all; a set from which none goes on is dead for good."""
+        """Adds one more by forward steps only, from this set to the set of all; a set from which none goes on is dead for good."""
         if behind == self.steps.all:
             return True
         for c in self.goes(behind):
@@ -172,7 +172,7 @@ class Flow:
         return False
 
     def reached(self):
-        """The sets that one more could still come to, each with the step by which it came first, and nobody's set; they end with that of all."""
+        """The sets that one more could still come to, each with the step by which it was first reached, and the empty set. They end with the set of all."""
         come, queue = {0: None}, [0]
         for behind in queue:
             further = [(behind | 1 << c, (behind, c, True)) for c in self.goes(behind)]
@@ -190,7 +190,7 @@ class Flow:
         return come if self.steps.all in come else None
 
     def move(self, come):
-        """One more on the way to the set of all, some steps of which may be taken back."""
+        """Adds one more along the way to the set of all; some of the steps on that way may be taken back."""
         at = self.steps.all
         while come[at] is not None:
             behind, c, on = come[at]
@@ -199,7 +199,7 @@ class Flow:
         self.value += 1
 
     def orders(self):
-        """The flow taken apart: as many orders, each from all candidates back to nobody."""
+        """The flow as separate orders: as many as flow, each from all candidates back to nobody."""
         left, into, found = Counter(self.over), {behind: set(cs) for behind, cs in self.into.items()}, []
         for _ in range(self.value):
             behind, order = self.steps.all, []
@@ -215,7 +215,7 @@ class Flow:
 
 
 def by_flow(steps):
-    """How many NENs there have to be, beside all NEBs of the margin: there are as many orders of which no NEN refutes two."""
+    """How many NENs are needed, besides all NEBs of the margin: there are that many orders such that no NEN refutes two of them."""
     flow, seen = Flow(steps), set()
     for order in flow.orders():
         assert order[-1] != steps.winner and sorted(order) == list(range(steps.n))
@@ -227,7 +227,7 @@ def by_flow(steps):
 
 
 def standing(steps):
-    """How many sets stand beside the NEBs of the margin alone, which is what a budget of sets is compared with."""
+    """How many sets stand when only the NEBs of the margin are used; a budget of sets is compared with this number."""
     seen, stack = {0}, [0]
     while stack:
         behind = stack.pop()
@@ -240,8 +240,8 @@ def standing(steps):
 
 
 class Found(NamedTuple):
-    """What a search for the fewest NENs comes to: the best margin with the order, the least margin, the fewest NENs there can be, and the sets that
-    have to be within the budget, which are counted at the best margin."""
+    """The result of a search for the fewest NENs: the best margin with the order, the least margin, the fewest NENs that are possible, and the sets that
+    must be within the budget, which are counted at the best margin."""
 
     best: int
     least: int
@@ -261,7 +261,7 @@ def found(contest, gap=0):
 
 
 def otherwise(contest, came, sets, floor=1):
-    """Status and text of a search that doesn't print assertions, or None."""
+    """The status and the text of a search that doesn't print assertions, or None."""
     order, hardness = plain_sets.start(contest)
     if hardness and came.sets > sets:
         return 4, f"spent\nsets {sets}\norder {','.join(contest.ids[c] for c in order)}\nmargin {hardness}\n"

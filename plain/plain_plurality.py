@@ -1,4 +1,4 @@
-"""Plurality contests by their definition alone: who stands first on how many ballots, and what a card counts for a claim."""
+"""Plurality contests, directly from their definition: who is first on how many ballots, and what a card counts for a claim."""
 import plain
 
 
@@ -8,7 +8,7 @@ def firsts(contest):
 
 
 def claims(contest):
-    """Of each loser, in the contest's order, that the winner has more first preferences, and how many; or the tie."""
+    """For each loser, in the contest's order, the claim that the winner has more first preferences, and how many more; or the tie."""
     counts = firsts(contest)
     leaders = [c for c in range(contest.n) if counts[c] == max(counts)]
     if len(leaders) > 1:
@@ -19,5 +19,5 @@ def claims(contest):
 
 
 def lead(winner, loser, ranking):
-    """2 where the winner is first, 0 where the loser is, else 1."""
+    """2 if the winner is first, 0 if the loser is, 1 otherwise."""
     return {winner: 2, loser: 0}.get(ranking[0], 1) if ranking else 1

@@ -1,10 +1,10 @@
-"""A ballot poll by its definition alone: what the seen values of the drawn cards come to, assertion by assertion.
+"""A ballot poll, directly from its definition: what the seen values of the drawn cards amount to for each assertion.
 
-A draw with a seen value s multiplies the risk by (500 + gamma) / (500 s + gamma). Those with a value of 2 are taken first, those
-with 0 last; each step is rounded up to a unit of 10^-18, and the risk is never above one.
+A draw with a seen value s multiplies the risk by (500 + gamma) / (500 s + gamma). Draws with a value of 2 are taken first, and those with 0 last. Each step
+is rounded up to a unit of 10^-18, and the risk is never above one.
 
-With a look after each draw they are taken as they come. A risk that has come above a million stays as it is, and an assertion is confirmed by the
-first draw after which its risk is within the limit.
+With a look after each draw, they are taken in the order of the draws. A risk that has risen above a million stays as it is, and an assertion is confirmed
+by the first draw after which its risk is within the limit.
 """
 from fractions import Fraction
 
@@ -19,7 +19,7 @@ def counts_of(values):
 
 
 def risk(counts, gamma):
-    """The printed risk of so many draws with the values 0, 1 and 2, in units."""
+    """The printed risk of these numbers of draws with the values 0, 1 and 2, in units."""
     units = UNIT
     for _ in range(counts[2]):
         units = -(-units * (500 + gamma) // (1000 + gamma))
@@ -34,13 +34,13 @@ def exact_risk(counts, gamma):
 
 
 def is_confirmed(counts, limit, gamma):
-    """Whether the printed risk is within the limit. It isn't where the exact one is above it, which is seen sooner."""
+    """Whether the printed risk is within the limit. It isn't if the exact risk is above the limit, which is found sooner."""
     over = (500 + gamma) ** (counts[2] + counts[0]) * 10**6
     return over <= limit * (1000 + gamma) ** counts[2] * gamma ** counts[0] and risk(counts, gamma) <= limit * 10**12
 
 
 def first_confirmed(values, limit, gamma):
-    """The first number of draws after which all assertions are confirmed, of what they come to on each drawn card; None where there is none."""
+    """The first number of draws after which all assertions are confirmed, from their values on each drawn card; None if there is none."""
     counts = [[0, 0, 0] for _ in values]
     for draws, card in enumerate(zip(*values), 1):
         for each, s in zip(counts, card):
@@ -51,7 +51,7 @@ def first_confirmed(values, limit, gamma):
 
 
 def printed(names, values, cards, draws, limit, gamma):
-    """Status and text of `raire poll`, of assertions that prove a winner and of what they come to on each drawn card."""
+    """The status and the text of `raire poll`, for assertions that prove a winner and their values on each drawn card."""
     lines, all_confirmed = [f"cards {cards}", f"draws {draws}", f"limit {limit}", f"gamma {gamma}"], True
     for name, each in zip(names, values):
         counts = counts_of(each)
@@ -88,13 +88,13 @@ def end_of(values, limit, gamma):
 
 
 def asked(values, limit, gammas):
-    """How many draws are asked of: up to the one that confirms the last assertion, or all where one isn't confirmed."""
+    """How many draws are looked at: up to the one that confirms the last assertion, or all if one isn't confirmed."""
     ends = [end_of(each, limit, gamma)[2] or len(each) for each, gamma in zip(values, gammas)]
     return max(ends, default=0)
 
 
 def printed_each(head, names, values, limit, gammas):
-    """Status and text of `raire poll --each`: its first lines, and of each assertion what it comes to on each drawn card, and its gamma."""
+    """The status and the text of `raire poll --each`, from its first lines, and each assertion's values on each drawn card and its gamma."""
     lines, all_confirmed = list(head), True
     for name, each, gamma in zip(names, values, gammas):
         counts, units, confirmed = end_of(each, limit, gamma)

@@ -1,4 +1,4 @@
-"""What a card counts for an assertion, the printed risk of discrepancies, and the card of a draw, by their definition alone."""
+"""What a card counts for an assertion, the printed risk of discrepancies, and the card of a draw, directly from the definitions."""
 import hashlib
 
 import plain_plurality
@@ -8,7 +8,7 @@ MISSING = "missing"
 
 
 def value(assertion, ranking):
-    """2 for the winner, 0 for the loser, else 1."""
+    """2 for the winner, 0 for the loser, 1 otherwise."""
     kind, w, l = assertion[:3]
     if kind == "FIRST":
         return plain_plurality.lead(w, l, ranking)
@@ -28,7 +28,7 @@ def discrepancy(assertion, recorded, seen):
 
 
 def risk(counts, cards, margin, gamma):
-    """The printed risk of so many draws of each discrepancy."""
+    """The printed risk of these numbers of draws of each discrepancy."""
     left, units = 2 * cards - margin, UNIT
     for d in (4, 3, 2, 1, 0):
         over, under = (500 + gamma) * left, 500 * d * cards + gamma * left

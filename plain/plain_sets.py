@@ -1,7 +1,7 @@
-"""What a search counts with `--sets`, plainly and in two ways, and what comes of it.
+"""What a search counts with `--sets`, plainly and in two ways, and what it results in.
 
-`by_list` tries every suffix, by docs/rules.md alone. `by_sets` goes from set to set: what refutes a suffix first when one more candidate
-is put in front hangs on who that is and on the set behind alone. Both give `Found`. `searched` gives status and text of a search.
+`by_list` tries every suffix, directly from docs/rules.md. `by_sets` goes from set to set: what refutes a suffix first when one more candidate is put in
+front depends only on that candidate and on the set behind. Both give `Found`. `searched` gives the status and the text of a search.
 """
 import heapq
 import itertools
@@ -9,8 +9,8 @@ from typing import NamedTuple
 
 import plain
 
-MOST_LISTED = 5  # candidates of whose contest all suffixes are listed
-MOST_SUMMED = 15  # candidates of whose contest the tallies of all sets are summed, ahead of any walk
+MOST_LISTED = 5  # candidates; all suffixes of a contest with at most this many are listed
+MOST_SUMMED = 15  # candidates; the tallies of all sets of a contest with at most this many are summed before any walk
 
 
 class Found(NamedTuple):
@@ -24,19 +24,19 @@ class Found(NamedTuple):
 
     @property
     def sets(self):
-        """A budget of fewer is spent."""
+        """The smallest budget that is enough."""
         return max(self.cover, self.before)
 
 
 def start(contest):
-    """The order that a search starts from, the tabulated one with its last two exchanged, and its hardness."""
+    """The order that a search starts from, which is the tabulated one with its last two exchanged, and its hardness."""
     order = plain.tabulated(contest)[0]
     order = (*order[:-2], order[-1], order[-2])
     return order, plain.Lows(contest).low(order)[0]
 
 
 def by_list(contest):
-    """By the definition alone: the low of every suffix that ends in another candidate than the winner."""
+    """What counts, directly from the definition: the low of every suffix that ends in a candidate other than the winner."""
     winner, lows, n = plain.tabulated(contest)[0][-1], plain.Lows(contest), contest.n
     suffixes = [suffix for size in range(1, n + 1) for suffix in itertools.permutations(range(n), size) if suffix[-1] != winner]
     low = {suffix: lows.low(suffix) for suffix in suffixes}
@@ -50,7 +50,7 @@ def by_list(contest):
 
 
 class Steps:
-    """How much the low of a suffix has to be at least once a candidate is put in front of it, and by which assertion; sets are bits."""
+    """How large the low of a suffix must at least be once a candidate is put in front of it, and because of which assertion; sets are bits."""
 
     def __init__(self, contest):
         self.n, self.full, self.contest = contest.n, (1 << contest.n) - 1, contest
@@ -59,7 +59,7 @@ class Steps:
                        for c in range(contest.n)]
 
     def summed(self, contest, c):
-        """For each set how many ballots rank the candidate, and before it nobody who isn't in the set."""
+        """For each set, how many ballots rank the candidate and rank nobody before it who isn't in the set."""
         sums = [0] * (self.full + 1)
         for ranking, count in contest.rankings.items():
             if c in ranking:
@@ -71,7 +71,7 @@ class Steps:
         return sums
 
     def votes(self, gone, c, behind):
-        """The tally of a candidate where these are gone, and the least tally of those behind it with the first who has it."""
+        """The tally of a candidate when these are gone, and the smallest tally of those behind it with the first candidate who has it."""
         if self.sums:
             return self.sums[c][gone], *min((self.sums[l][gone], l) for l in members(behind))
         tally = self.contest.tally(frozenset(members(behind | 1 << c)))
@@ -96,7 +96,7 @@ def by_sets(contest):
     steps, winner, n = Steps(contest), plain.tabulated(contest)[0][-1], contest.n
 
     def outside(behind):
-        """Who may be put in front of a set; the last one isn't the winner."""
+        """Who may be put in front of a set; the last candidate isn't the winner."""
         return [c for c in range(n) if not behind >> c & 1 and (behind or c != winner)]
 
     best = least_way(steps, outside)
@@ -116,7 +116,7 @@ def by_sets(contest):
 
 
 def least_way(steps, outside):
-    """The least, over the ways from nobody to all, of their greatest step. Of ways as good as each other the one that has come further goes on."""
+    """The smallest, over the ways from nobody to all, of their greatest step. Among equally good ways, the one that has come further is continued."""
     heap, done = [(0, 0)], set()
     while True:
         low, come = heapq.heappop(heap)
@@ -129,7 +129,7 @@ def least_way(steps, outside):
 
 
 def first_way(steps, outside, best):
-    """How many sets are gone into until a whole order is found whose steps are at most this, the smallest candidates first; and the order."""
+    """How many sets are entered until a whole order is found whose steps are at most this, the smallest candidates first; and that order."""
     seen, stack = set(), [((), 0)]
     while True:
         suffix, behind = stack.pop()
@@ -153,7 +153,7 @@ def printed(contest, came, floor, plan):
 
 
 def searched(contest, sets, floor=1, plan=None, by=found):
-    """Status and text of a search: spent exactly where more sets count, and the start's hardness doesn't tell that nothing is decided."""
+    """The status and the text of a search: it is out of budget exactly if more sets count, and the start's hardness doesn't show that nothing is decided."""
     order, hardness = start(contest)
     if hardness:
         came = by(contest)

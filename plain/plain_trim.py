@@ -1,7 +1,7 @@
-"""The trimmed file by its definition alone: every order, every suffix, no index.
+"""The trimmed file, directly from the definition: every order, every suffix, no index.
 
-From the last claim to the first each is left out, and goes exactly where the others still refute every order that elects another
-candidate. The nodes or sets of a trial are those of `check`, of the claims that are left without the one that is tried.
+From the last claim to the first, each is omitted in turn, and it is removed exactly if the others still refute every order that elects another candidate.
+The nodes or sets of a trial are those of `check`, for the claims that are left without the one that is tried.
 """
 import itertools
 import json
@@ -13,7 +13,7 @@ ENTRY = ("kind", "loser", "margin", "winner")
 
 
 class Spent(Exception):
-    """The budget doesn't suffice for a trial: of this claim, counted from 1, at this candidate."""
+    """The budget isn't enough for a trial of this claim, counted from 1, at this candidate."""
 
     def __init__(self, claim, last):
         super().__init__(claim, last)
@@ -21,7 +21,7 @@ class Spent(Exception):
 
 
 class Walked:
-    """Of each order and each suffix of a contest that elects another candidate which claims refute it, as bits by their places."""
+    """For each order and each suffix of a contest that elects another candidate, which claims refute it, as bits by their places."""
 
     def __init__(self, n, winner, claims):
         self.n, self.winner = n, winner
@@ -38,7 +38,8 @@ class Walked:
         return sum(1 << at for at, (assertion, _) in enumerate(claims) if plain.refutes(assertion, suffix))
 
     def covers(self, left, budget):
-        """Whether the claims with these bits refute every order; or the candidate at whom more suffixes or sets count than the budget has."""
+        """Whether the claims with these bits refute every order. Raises LookupError with the candidate at whom more suffixes or sets count than the budget
+        has."""
         of_sets, counted = isinstance(budget, plain.Sets), set()
         for last, suffixes in self.suffixes.items():
             if not of_sets:
@@ -67,7 +68,7 @@ def trimmed(n, winner, claims, budget):
 
 
 def printed(data, budget):
-    """Status and text of `raire trim`, of an assertion file that a check accepts."""
+    """The status and the text of `raire trim`, for an assertion file that a check accepts."""
     file = plain.read_assertions(data)
     ids = file["candidates"]
     try:
@@ -84,6 +85,6 @@ def printed(data, budget):
 
 
 def shown(assertion, ids, names):
-    """The members of an assertion that are printed, those left in the contest's order."""
+    """The members of an assertion that are printed, with the remaining candidates in the contest's order."""
     members = {name: assertion[name] for name in names}
     return members if assertion["kind"] == "NEB" else {**members, "rest": sorted(assertion["rest"], key=ids.index)}

@@ -18,7 +18,7 @@ from words import ask_for_help, help_of, put, Words
 NAME = "release"
 PROGRAM = "crates/raire/out/raire"
 PARTS = ["CHANGELOG.md", "CITATION.cff", "LICENSE", "README.md", "VERSION", "docs", "examples", "plain", "raire", "tools"]
-APART = ("tools/build/", "tools/package/", f"tools/{NAME}", f"docs/help/{NAME}.txt")  # left out: what proves, builds and releases needs the sources
+APART = ("tools/build/", "tools/package/", f"tools/{NAME}", f"docs/help/{NAME}.txt")  # omitted: what proves, builds and releases needs the sources
 MACHINE = "x86_64"
 
 File = collections.namedtuple("File", "data mode")

@@ -52,7 +52,7 @@ def without(batches, recorded):
 
 
 def unnamed(batches, recorded):
-    """The batches without a card that some record names."""
+    """The batches in which no record names a card."""
     named = {records.batch_of(card)[0] for card in recorded}
     return {batch: size for batch, size in batches.items() if batch not in named}
 

@@ -1,10 +1,10 @@
 #!/usr/bin/env python3
-"""Proves the crates that the program stands on, builds it, and puts it into crates/raire/out. Prints how far it is, and what is refused.
+"""Proves the crates that the program depends on, builds the program, and puts it into crates/raire/out. Prints its progress, and what is refused.
 
-The crates are copied to a folder of their own, where `rt ci` proves them as the gate does, in three steps. The lowest crate comes first, with all
-processors. Then come the crates up to the top call, as many at a time as there are processors, those first that the longest chain of others waits for.
-The program itself comes last, again with all processors. What was proved on this machine before isn't proved again, if the kit can keep it; if it
-can't, all is one step.
+It copies the crates to a separate folder, where `rt ci` proves them as the gate does, in three steps. The lowest crate comes first, with all processors.
+Then come the crates up to the top call, as many at a time as there are processors, starting with those that the longest chain of others waits for. The
+program itself comes last, again with all processors. If the kit can keep what was proved on this machine before, it isn't proved again. If the kit can't,
+everything is one step.
 """
 import os
 import re
@@ -19,20 +19,20 @@ TOP = os.path.dirname(os.path.dirname(os.path.dirname(os.path.abspath(__file__))
 PROGRAM = "raire"
 PARTS = ("src", "specs", "proofs")
 LOWEST, TOP_CALL = "irv_base", "raire_cli"
-SECONDS_A_LINE = 0.05  # of a crate that has no time yet
+SECONDS_A_LINE = 0.05  # for a crate that has no time yet
 A_PROOF = 3_000_000_000  # bytes; most proofs take a third of this, the largest a little more
 REFUSED = 70  # the exit status
 
 
 def named_in(path):
-    """Each crate of the list, lowest first, with those that it names."""
+    """Each crate of the list, lowest first, with the crates that it names."""
     with open(path) as file:
         rows = [line.split(":") for line in file if ":" in line and not line.startswith("#")]
     return {row[0].split()[0]: row[1].split() for row in rows}
 
 
 def below(crate, named):
-    """The crates of the list that this one stands on."""
+    """The crates of the list that this one depends on."""
     found = {it for it in named[crate] if it in named}
     for it in [*found]:
         found |= below(it, named)
@@ -40,7 +40,7 @@ def below(crate, named):
 
 
 def lines_of(crate):
-    """How many lines the crate has."""
+    """The number of lines of the crate."""
     count = 0
     for part in PARTS:
         for folder, _, files in os.walk(os.path.join(TOP, "crates", crate, part)):
@@ -58,7 +58,7 @@ def measured():
 
 
 class Build:
-    """The crates that the program stands on, and what is known of their times."""
+    """The crates that the program depends on, and what is known about their times."""
 
     def __init__(self, named, seconds, processors):
         self.named, self.processors = named, processors
@@ -79,17 +79,17 @@ class Build:
         return done
 
     def above(self, crate):
-        """The crates that stand on this one directly."""
+        """The crates that depend on this one directly."""
         return [it for it in self.below if crate in self.named[it]]
 
     def chain(self, crate):
-        """The seconds of the longest chain of crates from this one up, each of which waits for the one before."""
+        """The seconds of the longest chain of crates from this one up, where each waits for the one before."""
         if crate not in self.chains:
             self.chains[crate] = self.seconds[crate] + max(map(self.chain, self.above(crate)), default=0.0)
         return self.chains[crate]
 
     def tell(self, crate, is_kept, passed):
-        """The line of a crate that is done after so many seconds."""
+        """The line for a crate that is done after this many seconds."""
         if is_kept:
             self.seconds[crate], self.chains = 0.0, {}
         self.told.append(crate)
@@ -108,7 +108,7 @@ class Build:
 
 
 def copied(named, crates, to):
-    """Copies these crates and what belongs to them, so that they are a repository."""
+    """Copies these crates and what belongs to them, so that the copy is a repository."""
     os.makedirs(os.path.join(to, ".git"))
     with open(os.path.join(to, "crates.txt"), "w") as file:
         file.writelines(f"{it}: {' '.join(named[it])}\n" for it in named if it in crates)
@@ -132,7 +132,7 @@ def free_memory():
 
 
 def can_keep():
-    """Whether the kit keeps what it proves: beside its own folder, with 5 GB free on that disk."""
+    """Whether the kit keeps what it proves: it can write next to its own folder, and that disk has 5 GB free."""
     kit = os.path.dirname(os.path.dirname(os.path.realpath(shutil.which("rt"))))
     store = os.path.join(os.path.dirname(kit), "rattle-kept")
     place = store if os.path.isdir(store) else os.path.dirname(kit)
@@ -140,7 +140,7 @@ def can_keep():
 
 
 def steps(processors):
-    """The calls of `rt ci`, one after the other: the crates that each names, and how many proofs it runs at a time, or None if the kit chooses."""
+    """The calls of `rt ci` in order: the crates that each names, and how many proofs it runs at a time, or None if the kit chooses."""
     if not can_keep():
         return [([], None)]
     at_once = min(processors, free_memory() // A_PROOF)
@@ -148,7 +148,7 @@ def steps(processors):
 
 
 def refusals(build, folder):
-    """Runs each step in the folder and reports each crate that is done. If one ends badly, what it said of what it refused, or else what it said last."""
+    """Runs each step in the folder and reports each crate that is done. If a step fails, returns what it said about what it refused, or else its last lines."""
     start = time.monotonic()
     for names, at_once in steps(build.processors):
         refused = refusals_of(build, folder, names, at_once, start)
@@ -158,7 +158,7 @@ def refusals(build, folder):
 
 
 def refusals_of(build, folder, names, at_once, start):
-    """The same of one call of `rt ci`."""
+    """The same for one call of `rt ci`."""
     said, refused = [], []
     given = {**os.environ, **({"RT_JOBS": str(at_once)} if at_once else {})}
     words = ["rt", "ci", *names]
@@ -179,13 +179,13 @@ def refusals_of(build, folder, names, at_once, start):
                     say(build.tell(done[1], done[3] == "is kept", time.monotonic() - start))
                 said = []
         except BaseException:
-            ran.kill()  # the checks that it began end with it
+            ran.kill()  # the checks that it started end with it
             raise
     return (refused or said or [f"rt ci ended with status {ran.returncode}\n"]) if ran.returncode else []
 
 
 def see_kit():
-    """Says so if this kit isn't one of those with which everything was proved."""
+    """Prints a note if this kit isn't one of those with which everything was proved."""
     kit = subprocess.run(["rt", "version"], capture_output=True, text=True).stdout.strip()
     with open(os.path.join(TOP, "tools", "build", "kits.txt")) as file:
         tried = [line.strip() for line in file if not line.startswith("#")]
@@ -199,7 +199,7 @@ def stopped(*_):
 
 
 def main():
-    import built  # it stands on this module
+    import built  # it depends on this module
 
     for it in (signal.SIGINT, signal.SIGTERM, signal.SIGHUP):
         signal.signal(it, stopped)

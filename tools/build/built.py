@@ -1,7 +1,7 @@
 #!/usr/bin/env python3
-"""What is known of the program of this clone: the record that is written when it is built, and whether program and sources are still those.
+"""Keeps the record of this clone's program, which is written when it is built, and says whether the program and the sources are still those of the record.
 
-built.py see      status 0: it was built here, of these sources; 1: there is none, or a source has changed; 2: it was not built here
+built.py see      status 0: it was built here, from these sources; 1: there is none, or a source has changed; 2: it was not built here
 built.py record   records the program that `rt ci` has just proved and built in place, as the gate does
 """
 import hashlib
@@ -26,7 +26,7 @@ def digest_of(path):
 
 
 def sources_of(top):
-    """The files that the program is proved and built of, by name."""
+    """The files that the program is proved and built from, by name."""
     named = build.named_in(os.path.join(top, "crates.txt"))
     paths = ["HANDLES"]
     for crate in {build.PROGRAM} | build.below(build.PROGRAM, named):
@@ -37,7 +37,7 @@ def sources_of(top):
 
 
 def digest_of_sources(top):
-    """One digest of all of them, and of which crates stand on which."""
+    """One digest of all sources, and of which crates depend on which."""
     named = build.named_in(os.path.join(top, "crates.txt"))
     crates = sorted({build.PROGRAM} | build.below(build.PROGRAM, named))
     lines = [f"{crate}: {' '.join(named[crate])}\n" for crate in crates]
@@ -46,7 +46,7 @@ def digest_of_sources(top):
 
 
 def kit():
-    """What the kit on the path says of itself."""
+    """What the kit on the path says about itself."""
     try:
         ran = subprocess.run(["rt", "version"], stdin=subprocess.DEVNULL, capture_output=True, text=True)
     except OSError:
@@ -60,7 +60,7 @@ class Record:
         self.path = f"{self.program}.built"
 
     def read(self):
-        """Its lines by their first word; nothing where there is no record."""
+        """The record's lines by their first word; empty if there is no record."""
         try:
             with open(self.path) as file:
                 return dict(line.rstrip("\n").split(" ", 1) for line in file)
@@ -68,17 +68,17 @@ class Record:
             return {}
 
     def write(self, sources, by):
-        """To be called when the program is in place. Where a source was changed since, the digests tell."""
+        """Writes the record. Must be called when the program is in place. If a source was changed since, the digests show it."""
         seen = time.time_ns()
         text = f"program {digest_of(self.program)}\nsources {sources}\nkit {kit()}\nby {by}\n"
         with open(f"{self.path}.new", "w") as file:
             file.write(text)
         is_same = digest_of_sources(self.top) == sources
-        os.utime(f"{self.path}.new", ns=(seen, seen) if is_same else (0, 0))  # what is newer makes ./raire compare digests
+        os.utime(f"{self.path}.new", ns=(seen, seen) if is_same else (0, 0))  # anything newer than the record makes ./raire compare digests
         os.replace(f"{self.path}.new", self.path)
 
     def see(self):
-        """Compares digests. Where all are as they were, the next use of ./raire compares times alone."""
+        """Compares digests. If all are as they were, the next use of ./raire only compares times."""
         seen, said = time.time_ns(), self.read()
         if not os.path.exists(self.program):
             return CHANGED

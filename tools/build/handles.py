@@ -1,9 +1,9 @@
 #!/usr/bin/env python3
-"""Sees that the program takes no handle but `Threads`: no source of it names one under which a call may wait, end the process, open a socket or
-start a program.
+"""Checks that the program takes only the handle `Threads`: none of its sources names a handle with which a call may wait, end the process, open a socket
+or start a program.
 
-The kit's check proves that each function returns, unless it takes such a handle as a bound. `main` gets the handles that the code below it asks
-for. HANDLES allows more than these sources use, so `rt ci` wouldn't refuse `Wait`. The sources are read here; nothing is proved again.
+The kit's check proves that each function returns, unless it takes one of these handles as a bound. `main` gets the handles that the code below it asks
+for. HANDLES allows more than these sources use, so `rt ci` wouldn't refuse `Wait`. This script only reads the sources; it proves nothing again.
 """
 import glob
 import os

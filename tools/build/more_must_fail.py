@@ -1,11 +1,11 @@
 #!/usr/bin/env python3
-"""Tries the wrong bodies that the gate leaves out: those in the crates' more-must-fail/.
+"""Tries the wrong bodies that the gate skips: those in the crates' more-must-fail/.
 
-    tools/build/more_must_fail.py [NAME..]    tries those of these crates, or of all: the prover must refuse each
-    tools/build/more_must_fail.py --look      sees that each wrong body, also of must-fail/, can be applied: what it changes stands once in its file
+    tools/build/more_must_fail.py [NAME..]    tries those of these crates, or of all crates: the prover must refuse each
+    tools/build/more_must_fail.py --look      checks that each wrong body, including must-fail/, can be applied: what it changes is in its file once
 
-They are tried by `rt ci` over a copy of the crates, in which they take the place of those in must-fail/. What an earlier run proved on this
-machine isn't proved again, if the kit can keep it.
+`rt ci` tries them in a copy of the crates, where they replace those in must-fail/. What an earlier run proved on this machine isn't proved again, if the
+kit can keep it.
 """
 import glob
 import os
@@ -17,7 +17,7 @@ import tempfile
 from build import TOP, below, copied, named_in
 
 MORE = "more-must-fail"
-BAD = 1  # the exit status where one isn't refused, or can't be applied
+BAD = 1  # the exit status if one isn't refused or can't be applied
 
 
 def wrong_bodies(crate, folder):
@@ -36,7 +36,7 @@ def pairs(path):
 
 
 def faults(path):
-    """What a wrong body changes and doesn't stand once in its file."""
+    """What is wrong with a wrong body: it changes nothing, or a text that isn't in its file exactly once."""
     crate = os.path.dirname(os.path.dirname(path))
     changes = list(pairs(path))
     if not changes:
@@ -53,7 +53,7 @@ def faults(path):
 
 
 def look(crates):
-    """Sees that all can be applied."""
+    """Checks that all wrong bodies can be applied."""
     count = bad = 0
     for crate in crates:
         for path in wrong_bodies(crate, "must-fail") + wrong_bodies(crate, MORE):
@@ -66,7 +66,7 @@ def look(crates):
 
 
 def try_all(named, crates):
-    """Tries those of these crates."""
+    """Tries the wrong bodies of these crates."""
     wanted = {it for crate in crates for it in (crate, *below(crate, named))}
     with tempfile.TemporaryDirectory(prefix="raire-", ignore_cleanup_errors=True) as folder:
         copied(named, wanted, folder)

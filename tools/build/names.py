@@ -1,8 +1,8 @@
 #!/usr/bin/env python3
-"""Compares the lines of crates.txt with the crates: each names the libraries that the crate's text names, and no others.
+"""Compares the lines of crates.txt with the crates: each line must name the libraries that the crate's text names, and no others.
 
-tools/build/names.py tells what a line has and the text hasn't, and which crate the text has and the line hasn't. `rt` reads the sources of each
-library once for each way that leads to it, so a name too many costs time in every build.
+tools/build/names.py prints each library that a line has but the text doesn't, and each crate that the text has but the line doesn't. `rt` reads the
+sources of each library once for each path that leads to it, so an extra name costs time in every build.
 """
 import os
 import re

@@ -1,4 +1,4 @@
-"""The observer's form: runs everything that was typed again, in a folder of its own, and says of each file whether its bytes are the same."""
+"""The observer's form: runs everything that was typed again, in a separate folder, and says for each file whether its bytes are the same."""
 import os
 import shutil
 import tarfile
@@ -13,12 +13,12 @@ from running import Call, Refused, Runner
 SAME, DIFFERENT = 0, 6
 MOST_BUNDLE_FILES = 10_000
 PIECE = 1 << 16
-GZIP = zlib.MAX_WBITS | 16  # a stream of gzip, whose sum and length are looked at
+GZIP = zlib.MAX_WBITS | 16  # a gzip stream, whose checksum and length are checked
 END_OF_TAR = 2 * tarfile.BLOCKSIZE
 
 
 def told(path, out):
-    """Writes a line for each file. The status says whether all are the same."""
+    """Writes a line for each file, and returns a status that says whether all are the same."""
     with tempfile.TemporaryDirectory() as own:
         source = unpacked(path, os.path.join(own, "bundle")) if os.path.isfile(path) else path
         made = os.path.join(own, "again")
@@ -32,7 +32,7 @@ def told(path, out):
 
 
 def unpacked(path, place):
-    """The files of a bundle, in a folder of its own. Nothing but plain files of plain names is taken out of it."""
+    """Takes the files out of a bundle, into a separate folder. Only plain files with plain names are taken out."""
     os.mkdir(place)
     try:
         with tempfile.TemporaryFile() as unzipped:
@@ -46,7 +46,7 @@ def unpacked(path, place):
 
 
 def unzip(path, out):
-    """Unpacks a file to its very end, so that no byte of it goes without a look."""
+    """Unpacks a file to its very end, so that no byte of it goes unchecked."""
     with open(path, "rb") as file:
         if file.read(len(bundle.ZIPPED)) != bundle.ZIPPED:
             raise ValueError("it doesn't begin as a desk's bundle does")
@@ -62,7 +62,7 @@ def unzip(path, out):
 
 
 def take_out(path, archive, place):
-    """Takes the files out of an archive. After the last of them there is nothing but its end."""
+    """Takes the files out of an archive. Only the end of the archive may follow the last file."""
     with tarfile.open(fileobj=archive, mode="r:") as tar:
         for number, entry in enumerate(tar):
             name = entry.name.removeprefix(f"{bundle.FOLDER}/")
@@ -79,14 +79,14 @@ def take_out(path, archive, place):
 
 
 class Again:
-    """What a record says, what its folder has, and what comes of running it again."""
+    """What a record says, what its folder has, and the result of running the record again."""
 
     def __init__(self, source, place):
         self.source, self.place, self.runner = source, place, Runner(place)
-        self.made = {}  # the digest of each file as it was made again, or why it wasn't
+        self.made = {}  # the digest of each file that was made again, or why it wasn't
 
     def lines(self):
-        """Each file with what is said of it: commands.txt first."""
+        """Each file with what is said about it, commands.txt first."""
         try:
             with open(os.path.join(self.source, record.NAME), encoding="utf-8", newline="") as file:
                 text = file.read()
@@ -112,7 +112,7 @@ class Again:
         return f"isn't the folder of a desk: it has no {record.NAME}. What to do: the commands in docs/observers.md check its files"
 
     def page(self):
-        """How to run it again, as a bundle has it."""
+        """The page of a bundle that says how to run it again, if it is there."""
         path = os.path.join(self.source, bundle.PAGE)
         if os.path.lexists(path):
             with open(path, "rb") as file:
@@ -147,7 +147,7 @@ class Again:
         return "the same"
 
     def others(self, files):
-        """What lies there and is none of the record."""
+        """The files in the folder that don't belong to the record."""
         known = {*files, record.NAME, bundle.PAGE, SCRATCH}
         for name in sorted(os.listdir(self.source)):
             if name not in known and not name.endswith(DRAFT_END):
@@ -155,5 +155,5 @@ class Again:
 
 
 def also_of(line):
-    """What a command makes besides its standard output."""
+    """The files that a command makes besides its standard output."""
     return tuple(name for name in line.made if name != line.out)

@@ -1,4 +1,4 @@
-"""What the record and the files of a folder say of the audit: what was chosen, what is known, how far it is."""
+"""What the record and the files of a folder say about the audit: what was chosen, what is known, and how far it is."""
 import csv
 import functools
 import io
@@ -14,13 +14,13 @@ from limits import MOST_CONTESTS
 COMPARISON, PLURALITY, POLL, CONTESTS = KINDS = ("comparison", "plurality", "poll", "contests")
 BALLOTS, MANIFEST, BOXES, SEEN, COUNTED, NAMES = "ballots.raire", "manifest.csv", "boxes.txt", "seen.csv", "counted.raire", "names.csv"
 READERS = ("A", "B")
-HEAD_BYTES = 8 << 20  # of a ballot file, in which the records of its contests stand
+HEAD_BYTES = 8 << 20  # the part of a ballot file that has the records of its contests
 CONFIRMED, UNCONFIRMED = 0, 10
-EACH, BEST = "each", "best"  # of a poll: a look after each draw, and the gamma that fits each margin
+EACH, BEST = "each", "best"  # for a poll: a look after each draw, and the gamma that fits each margin
 
 
 class Contest(NamedTuple):
-    """A contest of the ballot file: its number there, from 1 on, its id and the ids of its candidates."""
+    """A contest of the ballot file: its number there, from 1 on, its id, and the ids of its candidates."""
     number: int
     id: str
     candidates: tuple
@@ -51,12 +51,12 @@ class Audit:
 
     @property
     def gamma(self):
-        """In thousandths; or a word, of a poll that takes the one that fits each margin."""
+        """The gamma in thousandths, or a word if a poll takes the gamma that fits each margin."""
         return BEST if self.choices["gamma"] == BEST else int(self.choices["gamma"])
 
     @property
     def is_each(self):
-        """Whether a poll looks after each draw, and not only at the end of a round."""
+        """Whether a poll looks after each draw, not only at the end of a round."""
         return self.choices.get("looks") == EACH
 
     @property
@@ -75,7 +75,7 @@ class Audit:
 
     @functools.cached_property
     def contests(self):
-        """The contests of the ballot file, or none if it can't be read as one."""
+        """The contests of the ballot file, or none if the file can't be read as one."""
         try:
             with open(self.folder.place(BALLOTS), "rb") as file:
                 return contests_of(file.read(HEAD_BYTES))
@@ -84,7 +84,7 @@ class Audit:
 
     @functools.cached_property
     def names(self):
-        """What candidates are called, by their contest (if it is named) and their ids, if an export told it. A contest's own name has no id."""
+        """The names of candidates by their contest (if it is named) and their ids, if an export said them. A contest's own name has no id."""
         rows = list(csv.reader(io.StringIO(self.text(NAMES), newline="")))
         return {tuple(row[:-1])[-2:]: row[-1] for row in rows[1:] if len(row) in (2, 3)}
 
@@ -92,7 +92,7 @@ class Audit:
         return self.names.get((contest.id, candidate)) or self.names.get((candidate,)) or candidate
 
     def title(self, contest):
-        """What a contest is called, with its id."""
+        """The name of a contest, with its id."""
         name = self.names.get((contest.id, ""))
         return f"{name} ({contest.id})" if name and name != contest.id else contest.id
 
@@ -102,13 +102,13 @@ class Audit:
         return next((each for each in self.contests if each.id == self.choices.get("contest")), None)
 
     def audited(self):
-        """The contests that are audited: the chosen one, or all whose assertions were found."""
+        """The contests that are audited: the chosen one, or all contests whose assertions were found."""
         if self.kind == CONTESTS:
             return [each for each in self.contests if f"assertions_{each.number}.json" in self.files]
         return [self.contest]
 
     def undecided(self):
-        """The contests of a county that have no assertions: those that are tied, or whose budget was spent."""
+        """The contests of a county that have no assertions: those that are tied, or whose budget ran out."""
         return [each for each in self.contests if f"undecided_{each.number}.txt" in self.files]
 
     # ---- cards
@@ -134,7 +134,7 @@ class Audit:
             before = draws
 
     def answer_of(self, round):
-        """The file that a round ends with."""
+        """The file with the answer of a round."""
         return {POLL: f"poll{round.draws}.txt", CONTESTS: f"county{round.draws}.txt"}.get(self.kind, f"round{round.number}.json")
 
     def status_of(self, step, command):
@@ -160,7 +160,7 @@ class Audit:
         return self.folder.text(name) if name in self.files else ""
 
     def members(self, name):
-        """The members of a file of JSON."""
+        """The members of a JSON file."""
         return json.loads(self.text(name))
 
     def size(self, name):
@@ -168,7 +168,7 @@ class Audit:
 
 
 def contests_of(data):
-    """The contests of a ballot file, by the records at its head."""
+    """The contests of a ballot file, from the records at its head."""
     head = list(itertools.islice(plain_audit.numbered(data), MOST_CONTESTS + 1))
     found = plain_audit.contest_records(head)
     return [Contest(number, name, tuple(ids)) for number, (name, (ids, _)) in enumerate(found.items(), 1)]

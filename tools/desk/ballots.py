@@ -1,4 +1,4 @@
-"""What the ballots of a file say by themselves: who has the first preferences, and which cards of the manifest have no ballot."""
+"""What the ballots of a file say by themselves: who has how many first preferences, and which cards of the manifest have no ballot."""
 import csv
 import functools
 import itertools
@@ -7,18 +7,19 @@ from typing import NamedTuple
 import plain_audit
 from audit import BALLOTS, contests_of, COUNTED, HEAD_BYTES, MANIFEST
 
-MOST_NAMED = 10  # cards that are named one by one
+MOST_NAMED = 10  # cards that are listed one by one
 
 
 class First(NamedTuple):
-    """A candidate's first preferences, and how many the leader has more."""
+    """A candidate's first preferences, and how many more the leader has."""
     candidate: str
     votes: int
     behind: int
 
 
 class Left(NamedTuple):
-    """The ballots of a full count beside the cards of the manifest: how many cards have none, the first of them, and the ballots that are of no card."""
+    """The ballots of a full count compared with the cards of the manifest: the number of cards, the number without a ballot, the first of those, and the
+    number of ballots that belong to no card."""
     cards: int
     without: int
     named: list
@@ -30,7 +31,7 @@ class Left(NamedTuple):
 
 
 def first_preferences(audit):
-    """The candidates of the one contest with their first preferences, the most first."""
+    """The candidates of the one contest with their first preferences, in descending order."""
     votes = votes_of(audit.folder.place(BALLOTS), audit.files[BALLOTS], audit.contest)
     most = max(votes.values())
     return sorted((First(name, count, most - count) for name, count in votes.items()), key=lambda each: -each.votes)
@@ -58,7 +59,7 @@ def ballots_of(path, contest):
 
 
 def left_out(audit):
-    """Which cards have no ballot in the full count."""
+    """The cards that have no ballot in the full count."""
     return left_of(audit.folder.place(COUNTED), audit.files[COUNTED], audit.folder.place(MANIFEST), audit.files[MANIFEST], audit.contest)
 
 

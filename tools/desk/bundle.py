@@ -1,4 +1,4 @@
-"""What is published at the end: all files of the record, with how to run them again, as one archive whose bytes depend on nothing else."""
+"""What is published at the end: all files of the record and how to run them again, in one archive whose bytes depend on nothing else."""
 import gzip
 import io
 import os

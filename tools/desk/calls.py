@@ -1,4 +1,4 @@
-"""What is typed at each step, for each kind of audit."""
+"""The words that are typed at each step, for each kind of audit."""
 import record
 from audit import BALLOTS, BOXES, COMPARISON, CONFIRMED, CONTESTS, COUNTED, MANIFEST, NAMES, PLURALITY, POLL, SEEN, UNCONFIRMED
 from running import call, Call
@@ -8,7 +8,7 @@ ANSWERS_OF_ROUND = (CONFIRMED, UNCONFIRMED)
 
 
 def contest_words(audit):
-    """No words if the ballot file has only one contest, as README types it."""
+    """The words that name the contest: none if the ballot file has only one, as in README."""
     return [f"--contest={audit.contest.id}"] if len(audit.contests) > 1 else []
 
 
@@ -27,7 +27,7 @@ def draws_words(audit, round):
 # ---- records and cards
 
 def judge(contests):
-    """A tabulation that nobody keeps: it refuses a file that is none."""
+    """A tabulation that isn't kept: it refuses a file that isn't a ballot file."""
     words = [f"--contest={contests[0].id}"] if len(contests) > 1 else []
     return call("tabulate", BALLOTS, *words, otherwise={TIED: None, SPENT: None})
 
@@ -42,9 +42,9 @@ def convert(form, files, options):
 
 
 def boxes(audit):
-    """The cards of the manifest compared with the records; records that name no card aren't asked.
+    """Compares the cards of the manifest with the records. Records that name no card aren't asked for.
 
-    A plurality contest is opened with a seed that nobody uses: a tie is told before the terms are fixed.
+    A plurality contest is opened with a seed that isn't used later, so that a tie is reported before the terms are fixed.
     """
     if audit.kind == POLL:
         return [call("sample", MANIFEST, "--seed=none", "--draws=1")]
@@ -103,7 +103,7 @@ def cards(audit, round):
 
 
 def agree(audit, number):
-    """A comparison of two readings for each contest; those of several contests are then put together."""
+    """Compares the two readings of each contest. The readings of several contests are then put together."""
     if audit.kind != CONTESTS:
         return [call("agree", f"seen{number}_A.csv", f"seen{number}_B.csv", out=f"seen{number}.csv")]
     names = {each.id: f"{number}_{each.number}" for each in audit.audited()}
@@ -113,7 +113,7 @@ def agree(audit, number):
 
 
 def round_of(audit, round):
-    """The count of a round, with what was seen in all rounds so far."""
+    """Counts a round, with what was seen in all rounds so far."""
     parts = [f"seen{number}.csv" for number in range(1, round.number + 1)]
     together = Call(("cat", *parts), {0: SEEN})
     out = audit.answer_of(round)
@@ -134,16 +134,16 @@ def counting_words(audit, round):
 
 
 def count(audit):
-    """A full count of the contest that is audited, tabulated.
+    """Tabulates a full count of the contest that is audited.
 
-    Of a plurality contest it is judged and no more: an instant runoff may elect somebody else, or be tied.
+    For a plurality contest the tabulation only judges the file: an instant runoff may elect somebody else, or be tied.
     """
     out = None if audit.kind == PLURALITY else "counted.txt"
     return call("tabulate", COUNTED, f"--contest={audit.contest.id}", out=out, otherwise={TIED: out, SPENT: out})
 
 
 def show(audit):
-    """The page of the audit, of all its files."""
+    """Makes the page of the audit from all its files."""
     last = audit.rounds()[-1]
     counted = [COUNTED] if COUNTED in audit.files else []
     terms = [*draws_words(audit, last), *terms_words(audit)]

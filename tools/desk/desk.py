@@ -1,4 +1,4 @@
-"""The desk: one folder, one deed at a time, and what came of the last one."""
+"""The desk: one folder, one deed at a time, and the result of the last one."""
 import os
 import threading
 from typing import NamedTuple
@@ -7,7 +7,7 @@ import record
 from replies import REPLIES
 from running import Refused, Runner
 
-PATIENCE = 1.5  # seconds that a request waits for its deed, before it shows how far that is
+PATIENCE = 1.5  # seconds that a request waits for its deed before it shows the deed's progress
 
 
 class Busy(Exception):
@@ -15,11 +15,11 @@ class Busy(Exception):
 
 
 class Outdated(Exception):
-    """The page from which a deed comes was made before the folder became what it is now."""
+    """The folder has changed since the page that asks for a deed was made."""
 
 
 class Notice(NamedTuple):
-    """What came of a deed that changed nothing: a command that was refused, or a fault of the disk."""
+    """The result of a deed that changed nothing: a command that was refused, or a disk fault."""
     step: str
     line: str
     status: int
@@ -33,13 +33,13 @@ class Desk:
         self.drafting = threading.Lock()  # one reading at a time goes into a draft
         self.runner = self.thread = self.notice = self.step = None  # of the last deed
         self.filled_in = {}  # the fields of its form
-        self.shown = {}  # answers that are looked at and belong to no file, by step
+        self.shown = {}  # answers that are only looked at and belong to no file, by step
 
     def is_busy(self):
         return self.lock.locked()
 
     def begin(self, step, version, lines, replaces=False, then=None, is_kept=True, filled_in=None):
-        """Does a deed: takes its uploads, and then runs its commands in a thread. `replaces` says that it takes the place of the last deed."""
+        """Does a deed: takes its uploads, then runs its commands in a thread. `replaces` says that it replaces the last deed."""
         if not self.lock.acquire(blocking=False):
             raise Busy
         try:
@@ -58,7 +58,7 @@ class Desk:
         self.thread.join(PATIENCE)
 
     def drop_notice(self, step):
-        """What was said of a step isn't said any longer."""
+        """Drops what was said about a step."""
         if self.notice and self.notice.step == step:
             self.notice = None
 
@@ -70,7 +70,7 @@ class Desk:
             self.lock.release()
 
     def take_back(self, version):
-        """The folder as it was before its last deed."""
+        """Restores the folder to what it was before its last deed."""
         if not self.lock.acquire(blocking=False):
             raise Busy
         try:
@@ -89,7 +89,7 @@ class Desk:
 
 
 class Deed:
-    """What one press of a button does."""
+    """What a single press of a button does."""
 
     def __init__(self, desk, step, base, lines, then, is_kept):
         self.desk, self.folder, self.step, self.base, self.lines = desk, desk.folder, step, base, list(lines)
@@ -98,7 +98,7 @@ class Deed:
         self.folder.prepare(base)
 
     def take_uploads(self):
-        """What was given and chosen comes first; its streams end with the request."""
+        """Takes the files that were given. They come first, since their streams end with the request."""
         while self.lines and hasattr(self.lines[0], "stream"):
             self.done.append(self.runner.done(self.lines.pop(0)))
 
@@ -124,11 +124,11 @@ class Deed:
         try:
             self.folder.clear()
         except OSError:
-            pass  # the next deed, or the next start, clears it
+            pass  # the next deed or the next start clears it
         self.desk.lock.release()
 
     def answers(self):
-        """The words and the answer of each command that was run to look at, and isn't kept."""
+        """The words and the answer of each command that was run only for its answer, which isn't kept."""
         for line in self.done:
             with open(os.path.join(self.folder.scratch, line.out), encoding="utf-8", errors="backslashreplace") as file:
                 yield line, file.read()

@@ -1,9 +1,9 @@
-"""Exports of vendors: the forms that ./raire convert reads, the names that their files have in the folder, and the rules and options of a conversion."""
+"""Vendors' exports: the forms that ./raire convert reads, the names of their files in the folder, and the rules and options of a conversion."""
 from typing import NamedTuple
 
 from forms import Wrong
 
-ZIP, XML, TEXT = "a zip", "XML", "text"  # what a file is, by its first bytes
+ZIP, XML, TEXT = "a zip", "XML", "text"  # the type of a file, by its first bytes
 ZIP_HEAD, XML_HEAD, MARK_OF_UTF8 = b"PK\x03\x04", b"<", b"\xef\xbb\xbf"
 HEAD_BYTES = 256
 MOST_FILES = 9
@@ -11,7 +11,7 @@ MOST_FILES = 9
 
 class Vendor(NamedTuple):
     title: str
-    endings: dict  # the ending of a file, by what it is
+    endings: dict  # the ending of a file, by its type
     takes: tuple = ()  # the options that this form has besides those of all forms
     most_files: int = MOST_FILES
 
@@ -19,7 +19,7 @@ class Vendor(NamedTuple):
 class Option(NamedTuple):
     label: str
     hint: str
-    is_list: bool = False  # a value in each line
+    is_list: bool = False  # one value per line
 
 
 FORMATS = {
@@ -51,8 +51,8 @@ RULES = {
         {"compare": "have to agree: overvotes and undervotes, or the numbers of cards", "ignore": "aren’t looked at"},
     ),
 }
-OF_RANKS = ("overvotes", "skips", "repeats", "ranks")  # what has no meaning unless candidates are ranked
-OF_SOME = ("marks", "counts", "id", "sheet", "title", "batch", "word", "seats")  # what has no meaning for some forms
+OF_RANKS = ("overvotes", "skips", "repeats", "ranks")  # these only have a meaning if candidates are ranked
+OF_SOME = ("marks", "counts", "id", "sheet", "title", "batch", "word", "seats")  # these have no meaning for some forms
 OPTIONS = {
     "contest": Option("Contests, by name or id", "One in each line. Default: all that the export says are ranked. Clear Ballot needs them.", True),
     "id": Option(
@@ -71,11 +71,11 @@ OPTIONS = {
     "title": Option("What the contest is called", "RCTab and plain sheets, which don’t say it; PrefLib."),
     "batch": Option("Batch of the ballots", "PrefLib, whose ballots have no ids."),
 }
-USUAL = ("title", "contest", "id", "cards")  # the options that are shown at once
+USUAL = ("title", "contest", "id", "cards")  # the options that are shown right away
 
 
 def name_of(number, vendor, stream):
-    """The name of an export in the folder, by what it is."""
+    """The name of an export in the folder, by its type."""
     kind = kind_of(stream.read(HEAD_BYTES))
     stream.seek(0)
     if kind not in vendor.endings:
@@ -90,7 +90,7 @@ def kind_of(head):
 
 
 def options_of(form, key):
-    """The options of ./raire convert: what is made, the rules, and what was typed in. What has no meaning for the form is left out."""
+    """The options of ./raire convert: what is made, the rules, and what was typed in. Options that have no meaning for the form are omitted."""
     takes = FORMATS[key].takes
     if key in UNTITLED:
         form.text("title", "What the contest is called")

@@ -1,4 +1,4 @@
-"""Which steps an audit has, in their order, which of them are done, and which can be done now."""
+"""The steps of an audit in order, which of them are done, and which can be done now."""
 from audit import COMPARISON, PLURALITY
 from steps import Account, Assertions, Cards, Contest, Plan, Records, Seed, Terms
 from steps_of_rounds import Count, End, Fetch, FullCount, Read
@@ -24,7 +24,7 @@ class Flow:
             yield step(self.audit)
 
     def of_rounds(self):
-        """The steps of the rounds that are begun, and of one more if none is open."""
+        """The steps of the rounds that have begun, and of one more if none is open."""
         begun = len(self.audit.rounds())
         is_open = begun > 0 and f"round{begun}" not in self.audit.deeds
         is_over = self.audit.is_signed_off() or any(step.key in self.audit.deeds for step in LAST)
@@ -39,7 +39,7 @@ class Flow:
         return next((step for step in self.steps if step.name == name), None)
 
     def open(self):
-        """The steps that can be done now: the first that isn't done and, after a round that leaves something open, also the last ones."""
+        """The steps that can be done now: the first that isn't done and, after a round that leaves something open, the last ones too."""
         undone = [step for step in self.steps if not step.is_done]
         if not undone:
             return []
@@ -55,7 +55,7 @@ class Flow:
         return bool(self.audit.record) and self.audit.record[-1].step == step.name
 
     def may_take_back(self, step):
-        """The last step can be taken back, as long as the terms aren't fixed; after that only one that published nothing."""
+        """Whether a step can be taken back: the last step can until the terms are fixed. After that, it only can if it published nothing."""
         return self.is_last(step) and ("terms" not in self.audit.deeds or step.key in ("count", "end"))
 
     def now(self):

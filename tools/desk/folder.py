@@ -1,7 +1,7 @@
-"""The folder of an audit, which is its whole state: the files that were given or made, and commands.txt.
+"""The folder of an audit, which is the audit's whole state: the files that were given or made, and commands.txt.
 
-A deed is done in a scratch folder and becomes the folder's at one instant, when the new commands.txt takes the place of the old one.
-Whatever ends the desk before or after that instant, `recover` finds the folder as it was before the deed or as it is after it.
+A deed is done in a scratch folder. It takes effect in the folder at one instant, when the new commands.txt replaces the old one. Whatever ends the desk
+before or after that instant, `recover` leaves the folder as it was before the deed or as it is after it.
 """
 import contextlib
 import fcntl
@@ -17,7 +17,7 @@ PIECE = 1 << 20
 
 
 class Unusable(Exception):
-    """The folder can't be used; the text says why."""
+    """The folder can't be used. The text says why."""
 
 
 def digest_of_file(path):
@@ -45,12 +45,12 @@ def write_synced(path, data):
 
 
 def is_own(path):
-    """Whether a regular file lies here, and no link to one."""
+    """Whether there is a regular file here, not a link to one."""
     return os.path.isfile(path) and not os.path.islink(path)
 
 
 def missing_folders(path):
-    """The folders on the way to this one that aren't there, and itself, the innermost first."""
+    """The folders on the path to this one that don't exist, including itself, the innermost first."""
     missing = []
     while path and not os.path.lexists(path):
         missing.append(path)
@@ -63,12 +63,12 @@ class Folder:
         self.path, self.scratch = path, os.path.join(path, SCRATCH)
         self.record, self.version = [], ""
         self.is_locked_by = None
-        self.new = []  # what opening it made: a record, and folders, the innermost first
+        self.new = []  # what opening the folder made: a record, and folders, the innermost first
 
     # ---- opening
 
     def open(self):
-        """Locks the folder, reads its record, and ends what a desk that was killed had begun."""
+        """Locks the folder, reads its record, and finishes what a desk that was killed had begun."""
         try:
             missing = missing_folders(self.path)
             os.makedirs(self.path, exist_ok=True)
@@ -87,7 +87,7 @@ class Folder:
             raise Unusable(f"{self.path}: {fault.strerror}") from None
 
     def lock(self):
-        """Only one desk has a folder. The lock goes with the process that holds it, however that ends."""
+        """Locks the folder, which only one desk may have. The lock ends with the process that holds it, however the process ends."""
         self.is_locked_by = os.open(self.path, os.O_RDONLY | os.O_DIRECTORY)
         try:
             fcntl.flock(self.is_locked_by, fcntl.LOCK_EX | fcntl.LOCK_NB)
@@ -115,12 +115,12 @@ class Folder:
             raise Unusable(f"{self.place(record.NAME)}: {broken}") from None
 
     def see_writable(self):
-        """A folder that takes no files is told at once, and not after the first deed."""
+        """Refuses a folder that takes no files right away, not after the first deed."""
         self.prepare([])
         self.clear()
 
     def see_undamaged(self):
-        """Nothing is built on files that somebody changed."""
+        """Refuses to build on files that somebody changed."""
         if damaged := self.damaged():
             raise Unusable(f"{self.path}: not as {record.NAME} says: {', '.join(damaged)}; restore the folder from a copy")
 
@@ -141,21 +141,21 @@ class Folder:
         return record.text_of(self.record)
 
     def damaged(self):
-        """The files that aren't what the record says."""
+        """The files that differ from what the record says."""
         places = {name: self.place(name) for name in self.files()}
         return [name for name, digest in self.files().items() if not is_own(places[name]) or digest_of_file(places[name]) != digest]
 
     # ---- a deed
 
     def prepare(self, base):
-        """An empty scratch folder, in which the files of a record stand under their names."""
+        """Makes an empty scratch folder, in which links with their names lead to the files of a record."""
         self.clear()
         os.makedirs(os.path.join(self.scratch, GONE))
         for name in record.files_of(base):
             os.symlink(os.path.join("..", name), os.path.join(self.scratch, name))
 
     def commit(self, new):
-        """Makes a record the folder's. The files that are new lie in the scratch folder; those that it no longer has go."""
+        """Makes a record the folder's record. New files are in the scratch folder, and files that the record no longer has are removed."""
         for name in record.files_of(new):
             if is_own(path := os.path.join(self.scratch, name)):
                 sync(path)
@@ -176,7 +176,7 @@ class Folder:
         self.record, self.version = new, record.digest_of(text)
 
     def recover(self):
-        """Puts each file of the record that still lies in the scratch folder in its place. What else lies there goes."""
+        """Moves each file of the record that is still in the scratch folder to its place. Everything else in there is removed."""
         for name, digest in self.files().items():
             for path in (os.path.join(self.scratch, name), os.path.join(self.scratch, GONE, name)):
                 if is_own(path) and digest_of_file(path) == digest:

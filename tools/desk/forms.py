@@ -1,15 +1,15 @@
-"""What comes in from a form, judged: nothing of it is taken that isn't of the kind that was asked for."""
+"""Judges what comes in from a form, and takes only values of the kind that was asked for."""
 import re
 from decimal import Decimal, InvalidOperation
 
 MOST_TEXT, MOST_LINES = 2_000, 100
 PERCENT_IN_MILLIONTHS = 10_000
-WHOLE = re.compile("[0-9]{1,10}|[0-9]{1,3}(,[0-9]{3}){1,3}")  # with commas between thousands, or without
+WHOLE = re.compile("[0-9]{1,10}|[0-9]{1,3}(,[0-9]{3}){1,3}")  # with or without commas between thousands
 DECIMAL_COMMA = re.compile("[0-9]+,[0-9]+")
 
 
 class Wrong(Exception):
-    """What was typed in can't be taken; the text says why, for the person who typed it."""
+    """What was typed in can't be taken. The text says why, for the person who typed it."""
 
 
 class Form:
@@ -46,7 +46,7 @@ class Form:
         return number
 
     def millionths(self, name, what):
-        """A percentage, as it is typed, in millionths."""
+        """A percentage as it is typed, in millionths."""
         text = self.values.get(name, "").strip().rstrip("%").strip()
         if DECIMAL_COMMA.fullmatch(text):
             raise Wrong(f"{what} has a comma. Write {text.replace(',', '.')}, with a point.")
@@ -68,7 +68,7 @@ class Form:
         return self.values.getlist(name)
 
     def file(self, name, what):
-        """A file that was given. Its name isn't looked at."""
+        """A file that was given. Its name is ignored."""
         found = self.files.get(name)
         if found is None or not found.filename:
             raise Wrong(f"Choose {what}.")

@@ -3,18 +3,18 @@
 The parts of the desk, lowest first; each uses only those above it:
     record.py                      commands.txt: the record of what was typed, as a text and read back
     folder.py                      the folder on the disk: its lock, an action that is done at one instant, what is found after a kill
-    running.py                     one command after the other, in a folder, with an end at any time
+    running.py                     commands run in order, in a folder, which can be stopped at any time
     desk.py                        one action at a time, and the result of the last one
-    audit.py, calls.py, terms.py   what a folder says of its audit; which words are typed at each step; the page of terms
+    audit.py, calls.py, terms.py   what a folder says about its audit; which words are typed at each step; the page of terms
     ballots.py                     first preferences; cards without a ballot in a full count
     forms.py, exports.py, readings.py
-                                   what is typed in, judged: forms, exports of vendors, readings of cards
+                                   judge what is typed in: forms, vendors' exports, readings of cards
     steps.py, steps_of_rounds.py, flow.py
                                    the steps, and which of them can be done now
     told.py, pages.py, pages/, bundle.py
                                    the answers in words, the pages, what is published
     safety.py, replies.py, server.py
-                                   who may ask, what a refusal says, the server
+                                   who may send requests, what a refusal says, the server
     again.py, main.py              the observer's form; the words of the command
 
 A new step is a class in steps.py or steps_of_rounds.py, its place in flow.py, its words in calls.py and its page in pages/steps/.
@@ -80,7 +80,7 @@ def read(given):
 
 
 def serve(given, place):
-    """Serves the folder until somebody ends it."""
+    """Serves the folder until somebody stops it."""
     import server
     from audit import Audit
     from desk import Desk

@@ -1,4 +1,4 @@
-"""The pages of the desk: what is looked at, and what is done by a press of a button."""
+"""The pages of the desk: what is looked at, and what the press of a button does."""
 import os
 import urllib.parse
 
@@ -24,14 +24,14 @@ STYLES = {"style.css": os.path.join(os.path.dirname(HERE), "page"), "desk.css": 
 MOST_EXPORT_BYTES = 1 << 30
 MOST_FORM_BYTES = 1 << 20
 MOST_BYTES = {"/step/records/do": MOST_EXPORT_BYTES, "/step/cards/do": MOST_FILE_BYTES, "/step/count/do": MOST_FILE_BYTES, "/sheet": MOST_FILE_BYTES}
-FORMS, FORMS_OF_READINGS = ("do", "preview", "back", "try"), ("begin", "take", "sheet")  # how their addresses end
-ROOM = 1 << 16  # of a body, besides its file
-werkzeug.formparser.RequestEntityTooLarge = RequestEntityTooLarge  # the distribution's 2.2.2 raises it there, and doesn't import it
+FORMS, FORMS_OF_READINGS = ("do", "preview", "back", "try"), ("begin", "take", "sheet")  # the ends of their addresses
+ROOM = 1 << 16  # room in a body for what isn't its file
+werkzeug.formparser.RequestEntityTooLarge = RequestEntityTooLarge  # the distribution's 2.2.2 raises it there but doesn't import it
 TYPES = {".html": "text/html", ".zip": "application/zip"}
 
 
 class Request(flask.Request):
-    """Bodies are as long as their forms can be, and no longer."""
+    """A request whose body may be as long as its form can be, and no longer."""
     max_form_memory_size = MOST_FORM_BYTES
 
     @property
@@ -44,7 +44,7 @@ class Pages:
         self.desk, self.guard = desk, Guard(host, port)
         self.app = flask.Flask(__name__, static_folder=None, template_folder=os.path.join(HERE, "pages"))
         self.app.request_class = Request
-        self.app.jinja_env.autoescape = True  # Flask takes it from a file's ending, and these end otherwise
+        self.app.jinja_env.autoescape = True  # Flask decides this by a file's ending, and these have another one
         self.app.jinja_env.trim_blocks = self.app.jinja_env.lstrip_blocks = True
         self.app.jinja_env.filters.update(told.FILTERS)
         self.app.before_request(self.guard.judge)
@@ -78,13 +78,13 @@ class Pages:
         return Audit(self.desk.folder)
 
     def shown(self, template, audit, flow, **parts):
-        """A page, with what all pages have."""
+        """A page, with the parts that all pages have."""
         return flask.render_template(
             template, audit=audit, flow=flow, desk=self.desk, token=self.guard.token, version=self.desk.folder.version, **parts,
         )
 
     def found(self, name):
-        """The audit as it is, its flow, and the step of this name."""
+        """The audit as it is now, its flow, and the step with this name."""
         audit = self.audit()
         flow = Flow(audit)
         return audit, flow, flow.find(name) or flask.abort(404)
@@ -94,14 +94,14 @@ class Pages:
             return flask.redirect("/running", 303)
         audit, flow, step = self.found(name)
         if wrong:
-            self.desk.drop_notice(name)  # what is said last is said alone
+            self.desk.drop_notice(name)  # only the latest message is shown
         notice = self.desk.notice if self.desk.notice and self.desk.notice.step == name else None
         values = filled_in or (self.desk.filled_in if notice else {})
         parts = {"step": step, "wrong": wrong, "notice": notice, "told": told, "values": values}
         return self.shown(f"steps/{step.key}.html.j2", audit, flow, **parts), status
 
     def step_of_form(self, name, end):
-        """The address of a form, asked for by a browser that goes back or begins again: the page that has the form."""
+        """Redirects a browser that goes back or begins again, and asks for the address of a form, to the page that has the form."""
         if end not in FORMS:
             flask.abort(404)
         return flask.redirect(f"/step/{self.found(name)[2].name}", 303)
@@ -123,7 +123,7 @@ class Pages:
         return self.shown("typed.html.j2", audit, Flow(audit), text=self.desk.folder.text_of_record(), damaged=self.desk.folder.damaged())
 
     def file(self, name):
-        """A file of the record, and no other one: the name is looked up, and not opened."""
+        """A file of the record, and no other file: the name is looked up in the record, and isn't opened as a path."""
         if name not in self.desk.folder.files():
             flask.abort(404)
         kind = TYPES.get(os.path.splitext(name)[1], "text/plain")
@@ -141,7 +141,7 @@ class Pages:
     # ---- what is done
 
     def form(self):
-        """The form of a request, whose page has to be this desk's."""
+        """The form of a request, whose page must be this desk's."""
         self.guard.judge_token()
         return Form(flask.request.form, flask.request.files)
 
@@ -161,7 +161,7 @@ class Pages:
         self.desk.begin(step.name, flask.request.form.get("version", ""), lines, replaces=step.is_done, filled_in=flask.request.form, **given)
 
     def preview(self, name):
-        """Terms, a seed or a number of draws, once more before they are fixed."""
+        """Shows terms, a seed or a number of draws once more before they are fixed."""
         form = self.form()
         audit, flow, step = self.found(name)
         if not flow.may_do(step) or not isinstance(step, (Terms, Seed, Fetch)):
@@ -175,7 +175,7 @@ class Pages:
         return self.shown("preview.html.j2", audit, flow, step=step, preview=preview, values=flask.request.form)
 
     def try_plans(self):
-        """Plans with other limits and gammas, which are looked at and not kept."""
+        """Makes plans with other limits and gammas, which are looked at but not kept."""
         self.form()
         audit, flow, step = self.found(Plan.key)
         if not flow.may_do(step):
@@ -202,7 +202,7 @@ class Pages:
     # ---- readings
 
     def drafts(self, number, reader):
-        """The step of these readings and the reader's draft, as long as nothing is made of it."""
+        """The step of these readings and the reader's draft, as long as the draft can still change."""
         audit, flow, step = self.found(f"{Read.key}{number}")
         if reader not in READERS or not flow.may_do(step):
             flask.abort(404)
@@ -214,7 +214,7 @@ class Pages:
             return flask.redirect(f"/step/{step.name}", 303)
         if not draft.person:
             return self.shown("reader.html.j2", audit, flow, step=step, reader=reader, wrong=wrong), status
-        if not (card or wrong or "card" in flask.request.args):  # a card has its own address, so that a browser that goes back shows no other one
+        if not (card or wrong or "card" in flask.request.args):  # a card has its own address, so that a browser that goes back shows the same card
             return flask.redirect(address_of(number, reader, draft.card("")), 303)
         card = draft.card(card or flask.request.args.get("card", ""))
         values = flask.request.form if wrong else {}
@@ -236,7 +236,7 @@ class Pages:
         return flask.redirect(f"/read/{number}/{reader}", 303)
 
     def take_reading(self, number, reader):
-        """A reading of one card goes into the reader's draft, if no other page has changed it meanwhile."""
+        """Puts the reading of a card into the reader's draft, if no other page has changed it in the meantime."""
         form = self.form()
         with self.desk.drafting:
             audit, flow, step, draft = self.drafts(number, reader)
@@ -252,13 +252,13 @@ class Pages:
         return flask.redirect(address_of(number, reader, following) if following else f"/step/{step.name}", 303)
 
     def keep(self, draft, step):
-        """Keeps a draft. What was said of readings that differ isn't said any longer once none do."""
+        """Keeps a draft. What was said about readings that differ is dropped when none differ any longer."""
         draft.keep()
         if not step.different(step.drafts()):
             self.desk.drop_notice(step.name)
 
     def take_sheet(self, number, reader):
-        """The readings of a file go into the reader's draft, all or none."""
+        """Puts the readings of a file into the reader's draft, all of them or none."""
         form = self.form()
         with self.desk.drafting:
             audit, flow, step, draft = self.drafts(number, reader)
@@ -275,7 +275,7 @@ class Pages:
     # ---- what goes wrong
 
     def failed(self, fault):
-        """A plain page of what was wrong with a request. The folder is as it was."""
+        """A plain page about what was wrong with a request. The folder is unchanged."""
         status, text = reply_of(fault)
         if status == 500:
             self.app.logger.error("a fault of the desk", exc_info=fault)

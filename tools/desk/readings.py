@@ -1,4 +1,4 @@
-"""What two readers type in of each card, apart from each other: drafts, until both read the same."""
+"""What two readers type in for each card, separately: drafts, until both readings are the same."""
 import csv
 import hashlib
 import io
@@ -29,12 +29,12 @@ def cards_of(audit, number):
 
 
 def name_of(number, reader):
-    """The name of a reader's draft. The person's own name is inside it."""
+    """The name of a reader's draft. The person's own name is in the draft."""
     return f"seen{number}_{reader}"
 
 
 class Draft:
-    """One reader's readings of the cards of a round: of each card MISSING, or who is ranked in each contest."""
+    """One reader's readings of the cards of a round: for each card, MISSING or the ranking in each contest."""
 
     def __init__(self, audit, number, reader):
         self.folder, self.name = audit.folder, name_of(number, reader)
@@ -49,19 +49,19 @@ class Draft:
         return [card for card in self.cards if card.id not in self.readings]
 
     def next(self, card):
-        """The next card without a reading, from this one on."""
+        """The next card without a reading, starting at this one."""
         at = next((at for at, each in enumerate(self.cards) if each.id == card), 0)
         return next((each for each in self.cards[at:] + self.cards[:at] if each.id not in self.readings), None)
 
     def card(self, name):
-        """The card of this name, or the first that has no reading."""
+        """The card with this id, or the first card that has no reading."""
         return next((each for each in self.cards if each.id == name), None) or (self.left() or self.cards)[0]
 
     def of(self, card):
         return self.readings.get(card)
 
     def rank_of(self, card, contest, rank):
-        """The number of the candidate at a rank, as a text, or nothing."""
+        """The number of the candidate at a rank as a text, or an empty text."""
         reading = self.readings.get(card.id)
         ranking = reading[str(contest.number)] if isinstance(reading, dict) else []
         return str(contest.candidates.index(ranking[rank - 1]) + 1) if rank <= len(ranking) else ""
@@ -80,7 +80,7 @@ class Draft:
         return text.getvalue()
 
     def in_words(self, card):
-        """A reading as people say it, a line a contest."""
+        """A reading as people say it, with a line for each contest."""
         reading = self.readings.get(card)
         if reading is None:
             return ["not read yet"]
@@ -94,7 +94,7 @@ class Draft:
 
 
 def mark_of(reading):
-    """A mark of a reading, by which a page sees whether it is still the one that it shows."""
+    """A digest of a reading. A page sees by it whether the reading is still the one that it shows."""
     return hashlib.sha256(json.dumps(reading, sort_keys=True).encode()).hexdigest()
 
 
@@ -106,14 +106,14 @@ def person_of(form):
 
 
 def reading_of(form, contests):
-    """What a form says of a card."""
+    """The reading of a card in a form."""
     if form.values.get("missing"):
         return MISSING
     return {str(each.number): ranking_of(form, each, len(contests) > 1) for each in contests}
 
 
 def ranking_of(form, contest, is_one_of_several):
-    """Who is ranked in a contest, the most preferred first."""
+    """The candidates who are ranked in a contest, the most preferred first."""
     where = f"{contest.id}: " if is_one_of_several else ""
     way = form.chosen(f"way_{contest.number}", f"{where}whether somebody is ranked", WAYS)
     marks = [form.values.get(f"rank_{contest.number}_{rank}", "") for rank in range(1, len(contest.candidates) + 1)]
@@ -141,7 +141,7 @@ def candidate_of(contest, mark):
 def readings_in(text, draft):
     """The readings of a seen file, such as a sheet that was filled in. Cards without a reading are passed over.
 
-    Of several contests each record has the id of its contest after the card's, and a card is read in all of them or in none.
+    If there are several contests, each record has the id of its contest after the card's, and a card is read in all of them or in none.
     """
     cards, found, ids = {card.id for card in draft.cards}, {}, {each.id: each for each in draft.contests}
     for at, (card, contest, word, *ranked) in enumerate(rows_of(text, draft.contests), 1):
@@ -161,7 +161,7 @@ def readings_in(text, draft):
 
 
 def reading_of_contests(card, found, contests):
-    """The reading of a card, whose contests are all read, or all missing."""
+    """The reading of a card, whose contests must be all read or all missing."""
     if left := [name for name in contests if name not in found]:
         raise Wrong(f"{card} has no reading for {left[0]}. Write a record for each contest, even if the card doesn’t have it.")
     missing = [name for name in contests if found[name] == MISSING]
@@ -171,7 +171,7 @@ def reading_of_contests(card, found, contests):
 
 
 def rows_of(text, contests):
-    """The records of a text: a card, a contest, a word and more, without blanks around them. Of one contest no record names it."""
+    """The records of a text: a card, a contest, a word and more, without blanks around them. If there is only one contest, no record names it."""
     try:
         rows = list(csv.reader(io.StringIO(text.removeprefix("\ufeff"), newline="")))
     except csv.Error as fault:
@@ -190,13 +190,13 @@ def see_reading(at, card, word, ranked, candidates):
 
 
 def differences(drafts):
-    """Each card that was read otherwise, with both readings in words."""
+    """Each card that was read differently, with both readings in words."""
     first, second = drafts
     return [(card, first.in_words(card.id), second.in_words(card.id)) for card in first.cards if first.of(card.id) != second.of(card.id)]
 
 
 def seen_files(audit, number, drafts):
-    """The seen files of both readers, by their names: of several contests one each."""
+    """The seen files of both readers, by their names: one file for each contest."""
     for letter, draft in zip("AB", drafts):
         for contest in draft.contests:
             part = f"{number}_{contest.number}" if audit.kind == CONTESTS else str(number)

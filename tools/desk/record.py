@@ -1,8 +1,7 @@
-"""commands.txt: what was typed in an audit, as a script of the shell that anyone can run again.
+"""commands.txt: what was typed in an audit, as a shell script that anyone can run again.
 
-A record is a list of deeds. A deed is what one press of a button did: choices, files that were given, and commands with their
-status and the SHA-256 of what they made. The text and the record say the same: `text_of` and `record_of` are inverses, and
-`record_of` refuses every other text.
+A record is a list of deeds. A deed is what one press of a button did: choices, files that were given, and commands with their status and the SHA-256 of
+what they made. The text and the record say the same thing: `text_of` and `record_of` are inverses, and `record_of` refuses every other text.
 """
 import hashlib
 import re
@@ -15,7 +14,7 @@ COMMANDS = (
     "agree", "audit", "boxes", "cards", "check", "contests", "convert", "open", "plan", "plurality", "poll", "report", "sample", "search", "show", "tabulate",
     "trim",
 )
-PUT_TOGETHER = ("cat", "joined")  # what the shell does with seen files, in place of the program
+PUT_TOGETHER = ("cat", "joined")  # what the shell does with seen files instead of the program
 FILE_OPTIONS = ("--account", "--names", "--candidates", "--places")
 NOWHERE = "/dev/null"
 
@@ -48,7 +47,7 @@ CHOICE = re.compile(r"([a-z][a-z_]*)=(.*)", re.DOTALL)
 
 
 class Broken(Exception):
-    """A text is no record; the place is a line."""
+    """A text isn't a record. The place is a line."""
 
     def __init__(self, at, why):
         super().__init__(f"line {at}: {why}")
@@ -77,7 +76,7 @@ class Given(NamedTuple):
 
 
 class Command(NamedTuple):
-    """A command that was run; what stood on its standard output is the file `out`, if there is one."""
+    """A command that was run. Its standard output is the file `out`, if there is one."""
     words: tuple
     out: str
     status: int
@@ -92,7 +91,7 @@ class Command(NamedTuple):
 
 
 class Deed(NamedTuple):
-    """What one press of a button did, and the step that it belongs to."""
+    """What a single press of a button did, and the step that it belongs to."""
     step: str
     lines: tuple
 
@@ -107,7 +106,7 @@ def digest_of(data):
 
 
 def files_of(record):
-    """Each file of a record with the digest that it has in the end."""
+    """Each file of a record with its final digest."""
     return {name: digest for deed in record for line in deed.lines if not isinstance(line, Choice) for name, digest in line.made.items()}
 
 
@@ -125,7 +124,7 @@ def text_of(record):
 # ---- from text to record
 
 def record_of(text):
-    """The record that a text says; a text that no record has is refused at the line where it differs."""
+    """The record in a text. A text that no record has is refused at the line where it differs."""
     head = HEAD.count("\n")
     if not text.startswith(HEAD):
         is_older = text.startswith("\n".join(HEAD.split("\n", 2)[:2]))
@@ -153,7 +152,7 @@ def see_same(text, wanted):
 
 
 def entry_of(at, line, lines):
-    """A choice, a file that was given, or a command; the line after the last two says what they made."""
+    """A choice, a file that was given, or a command. For the last two, the next line says what they made."""
     chosen = CHOICE.fullmatch(line)
     if chosen:
         return Choice(chosen[1], " ".join(words_of(at, chosen[2])))
@@ -172,7 +171,7 @@ def words_of(at, line):
 
 
 def made_of(at, line):
-    """The status, and the digest of each file, that a line `made` says."""
+    """The status and the digest of each file in a line `made`."""
     word, status, *rest = [*line.split(" "), "", ""]
     rest = rest[:-2] if rest[-2:] == ["", ""] else []
     digests, names = rest[::2], rest[1::2]
@@ -183,7 +182,7 @@ def made_of(at, line):
 
 
 def command_of(at, words, status, made):
-    """A command of the program, or one that puts seen files together. No other one is ever run."""
+    """A command of the program, or one that puts seen files together. No other command is ever run."""
     *words, arrow, out = words if len(words) > 3 else ["", "", "", ""]
     is_of_program = words[0] == PROGRAM and words[1] in COMMANDS
     if arrow != ">" or not (is_of_program or words[0] in PUT_TOGETHER):

@@ -1,4 +1,4 @@
-"""What is said of a request that isn't answered, by its status or its cause."""
+"""What is said about a request that isn't answered, by its status or its cause."""
 
 REPLIES = {
     "busy": "A command is running. Look at the step again when it has ended.",

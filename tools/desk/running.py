@@ -1,4 +1,4 @@
-"""Runs what is typed: one command after the other, in the scratch folder, with an end at any time."""
+"""Runs what is typed: the commands in order, in the scratch folder. They can be stopped at any time."""
 import itertools
 import os
 import signal
@@ -12,29 +12,29 @@ from folder import digest_of_file, sync
 
 TOP = os.path.dirname(os.path.dirname(os.path.dirname(os.path.abspath(__file__))))
 RAIRE = os.path.join(TOP, "raire")
-MOST_TOLD = 65_536  # bytes of an answer that is shown and not kept
+MOST_TOLD = 65_536  # bytes of an answer that is shown but not kept
 PIECE = 1 << 20
 
 
 class Call(NamedTuple):
-    """A command to type: its words, and for each status that is an answer the file that takes its standard output."""
+    """A command to type: its words and, for each status that is an answer, the file that takes its standard output."""
     words: tuple
     outs: dict
-    also: tuple = ()  # what it makes besides
+    also: tuple = ()  # the other files that it makes
 
     def line(self):
-        """As it is typed."""
+        """The command as it is typed."""
         return record.typed(self.words, next(iter(self.outs.values())))
 
 
 class Upload(NamedTuple):
-    """A file that was given, and that lies open."""
+    """A file that was given, as an open stream."""
     name: str
     stream: object
 
 
 class Refused(Exception):
-    """A command that was no answer, or that was stopped: what was typed, its status, and what it said."""
+    """A command that gave no answer, or that was stopped: what was typed, its status, and what it printed."""
 
     def __init__(self, line, status, told, is_stopped=False):
         super().__init__(told)
@@ -42,24 +42,24 @@ class Refused(Exception):
 
 
 def call(command, *words, out=None, otherwise=None, also=()):
-    """A command of the program with status 0 as its one answer; `otherwise` has the files of other ones."""
+    """A command of the program with status 0 as its usual answer. `otherwise` has the files of other answers."""
     return Call((record.PROGRAM, command, *words), {0: out, **(otherwise or {})}, also)
 
 
 def is_built():
-    """Whether there is a program to run. If there is none yet, ./raire builds it, and reports how far it is."""
+    """Whether there is a program to run. If there is none yet, ./raire builds it and reports its progress."""
     return subprocess.run([RAIRE, "--build"], stdin=subprocess.DEVNULL, stdout=subprocess.DEVNULL).returncode == 0
 
 
 class Runner:
-    """Runs commands in a folder. What runs at the moment can be seen and stopped from another thread."""
+    """Runs commands in a folder. Another thread can see what is running and stop it."""
 
     def __init__(self, folder):
         self.folder, self.line, self.process = folder, None, None
         self.started, self.is_stopped, self.lock = time.monotonic(), False, threading.Lock()
 
     def done(self, each):
-        """The line of the record that a choice, an upload or a command comes to."""
+        """Does a choice, an upload or a command, and returns its line of the record."""
         if isinstance(each, record.Choice):
             return each
         return self.taken(each) if isinstance(each, Upload) else self.ran(each)
@@ -91,7 +91,7 @@ class Runner:
         return record.Command(call.words, out, status, made)
 
     def typed(self, call, path):
-        """The status of a command of the program, and what it said on standard error."""
+        """Runs a command of the program, and returns its status and what it printed on standard error."""
         for name in call.also:
             self.fresh(name)
         with open(path, "xb") as out:
@@ -108,7 +108,7 @@ class Runner:
         return self.process.returncode, told.decode(errors="backslashreplace")
 
     def put_together(self, call, path):
-        """What `cat` and `joined` of commands.txt do."""
+        """Does what `cat` and `joined` do in commands.txt."""
         self.line = call.line()
         with open(path, "x", encoding="utf-8", newline="") as out:
             if call.words[0] == "cat":
@@ -123,21 +123,21 @@ class Runner:
             return list(file)
 
     def beginning(self, path):
-        """How the answer of a command began that isn't kept."""
+        """The beginning of the answer of a command that isn't kept."""
         if not os.path.exists(path):
             return ""
         with open(path, "rb") as file:
             return file.read(MOST_TOLD).decode(errors="backslashreplace")
 
     def stop(self):
-        """Ends the process of the command that runs, with what it started itself."""
+        """Ends the process of the running command, and the processes that it started itself."""
         with self.lock:
             self.is_stopped = True
             if self.process is not None and self.process.poll() is None:
                 os.killpg(self.process.pid, signal.SIGKILL)
 
     def work(self):
-        """The time that the processors worked on the command that runs, and the memory that it has."""
+        """The processor time and the memory that the running command uses."""
         with self.lock:
             return work_of(self.process.pid) if self.process is not None and self.process.poll() is None else ""
 
@@ -146,7 +146,7 @@ class Runner:
 
 
 def work_of(group):
-    """Seconds of processors and MiB of memory of the processes of a group, by the system's own account."""
+    """The processor seconds and the MiB of memory of the processes of a group, by the system's own account."""
     ticks = pages = 0
     for name in filter(str.isdigit, os.listdir("/proc")):
         try:

@@ -1,4 +1,4 @@
-"""Who may ask: requests from this machine's own browser, with the key that was printed. Everything else gets a plain refusal."""
+"""Decides which requests are answered: those from this machine's own browser, with the key that was printed. Everything else gets a plain refusal."""
 import hmac
 import secrets
 import urllib.parse
@@ -13,12 +13,12 @@ HEADERS = {
                                "form-action 'self'; base-uri 'none'; frame-ancestors 'none'",
     "X-Content-Type-Options": "nosniff",
     "X-Frame-Options": "DENY",
-    "Referrer-Policy": "same-origin",  # with less, a browser says of its own forms that they come from nowhere
+    "Referrer-Policy": "same-origin",  # with less, a browser says that its own forms come from nowhere
     "Cross-Origin-Opener-Policy": "same-origin",
     "Cross-Origin-Resource-Policy": "same-origin",
     "Cache-Control": "no-store",
 }
-PAGE_OF_A_FILE = "default-src 'none'; style-src 'unsafe-inline'; sandbox"  # of pages that the tools make, which have no script to run
+PAGE_OF_A_FILE = "default-src 'none'; style-src 'unsafe-inline'; sandbox"  # for pages that the tools make, which have no script to run
 
 
 def is_same(one, other):
@@ -26,11 +26,11 @@ def is_same(one, other):
 
 
 class Guard:
-    """The address, the keys, and what each request has to have."""
+    """The address, the keys, and what each request must have."""
 
     def __init__(self, host, port):
         self.host, self.origin = f"{host}:{port}", f"http://{host}:{port}"
-        self.cookie_name = f"desk-{port}"  # browsers don't tell ports apart in cookies
+        self.cookie_name = f"desk-{port}"  # browsers don't distinguish ports in cookies
         self.first_key, self.cookie, self.token = (secrets.token_urlsafe(KEY_BYTES) for _ in range(3))
 
     def address(self):
@@ -55,7 +55,7 @@ class Guard:
         return method == "GET" and path == "/" and self.first_key is not None and is_same(key, self.first_key)
 
     def judge(self):
-        """The same for a request that has come in, and the answer to the first address: a cookie. The key in it is used up then."""
+        """The same for a request that has come in, and the answer to the first address: a cookie. After that, the key in the address is used up."""
         query = request.query_string.decode("latin-1")
         status = self.refusal(request.method, request.path, query, request.headers.get)
         if status:
@@ -68,7 +68,7 @@ class Guard:
         return answer
 
     def judge_token(self):
-        """Each form has the token of its page."""
+        """Checks that a form has the token of its page."""
         if not is_same(request.form.get("token", ""), self.token):
             abort(403)
 

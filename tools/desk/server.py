@@ -1,4 +1,4 @@
-"""The server at 127.0.0.1: who has no key is refused at the door, before anything of a body is taken."""
+"""The server at 127.0.0.1. A request without the key is refused at the door, before any of its body is taken."""
 import logging
 import tempfile
 
@@ -10,7 +10,7 @@ from waitress.utilities import Error
 from replies import REPLIES
 
 THREADS, MOST_CONNECTIONS = 8, 500
-SILENCE, LOOK = 20, 5  # seconds after which a connection that says nothing is closed, and how often that is looked at
+SILENCE, LOOK = 20, 5  # seconds after which a silent connection is closed, and seconds between checks for that
 MOST_HEADER_BYTES = 16_384
 FULL = 507
 
@@ -27,7 +27,7 @@ class Refusal(Error):
 
 
 def door(guard):
-    """A parser of requests that refuses at the end of the headers what the guard refuses."""
+    """A request parser that refuses what the guard refuses, at the end of the headers."""
     class Door(HTTPRequestParser):
         def parse_header(self, header_plus):
             super().parse_header(header_plus)
@@ -38,7 +38,7 @@ def door(guard):
         def received(self, data):
             try:
                 return super().received(data)
-            except OSError as fault:  # what is being uploaded has no room to wait
+            except OSError as fault:  # there is no room for the upload to wait in
                 self.error, self.completed = Refusal(FULL, f"{fault.strerror}: nothing was changed."), True
                 return len(data)
 
@@ -46,7 +46,7 @@ def door(guard):
 
 
 def made(app, guard, host, port, most_body_bytes, folder):
-    """The server; an upload waits on the disk that it comes to, in a file without a name."""
+    """Makes the server. An upload waits in an unnamed file on the disk where it will be kept."""
     tempfile.tempdir = folder
     logging.getLogger("waitress.queue").setLevel(logging.ERROR)
     server = waitress.create_server(

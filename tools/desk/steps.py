@@ -1,4 +1,4 @@
-"""The steps of an audit up to the seed: what each does with what is typed in. A step is one deed of the record."""
+"""The steps of an audit up to the seed: what each does with what is typed in. A step is a deed of the record."""
 import io
 
 import calls
@@ -12,14 +12,14 @@ from running import Upload
 from terms import text_of_terms
 
 BUDGETS = {"": "100,000 nodes, the default", f"--sets={MOST_SETS}": f"{MOST_SETS:,} sets", f"--nodes={MOST_NODES}": f"{MOST_NODES:,} nodes"}
-MOST_WITHOUT_SETS = 9  # candidates up to which the default budget is never spent
+MOST_WITHOUT_SETS = 9  # up to this many candidates, the default budget never runs out
 MOST_BALLOTS, MOST_MINUTES, MOST_TEAMS = 1_000_000_000, 1_000, 1_000
 
 
 class Step:
     """A step: its key in addresses and in commands.txt, and its title."""
     key = title = ""
-    may_be_replaced = False  # whether it can be done anew at once, while nothing is done after it
+    may_be_replaced = False  # whether it can be done again right away, as long as nothing is done after it
 
     def __init__(self, audit, number=0):
         self.audit, self.number = audit, number
@@ -37,11 +37,11 @@ class Step:
         return self.title.format(number=self.number)
 
     def lines(self, form):
-        """What is chosen, given and typed, by what was filled in."""
+        """What is chosen, given and typed, from what was filled in."""
         raise NotImplementedError
 
     def finish(self):
-        """Puts in order what was there before the step was done."""
+        """Cleans up what was there before the step was done."""
 
 
 class Records(Step):
@@ -66,7 +66,7 @@ class Records(Step):
 
 
 def heads_of(stream):
-    """The contests of a ballot file that was given; none if it can't be read: then the program says what is wrong with it."""
+    """The contests of a ballot file that was given; none if it can't be read. Then the program says what is wrong with it."""
     head = stream.read(HEAD_BYTES)
     stream.seek(0)
     try:
@@ -94,7 +94,7 @@ class Contest(Step):
     key, title = "contest", "What is audited"
 
     def advised(self):
-        """How the records suggest that they are audited: by what was converted, or by the number of contests."""
+        """The kind of audit that the records suggest: by what was converted, or by the number of contests."""
         converted = [word for line in self.audit.commands("records") for word in line.words]
         if "--as=plurality" in converted:
             return PLURALITY
@@ -129,7 +129,7 @@ class Assertions(Step):
         return [Choice("budget", budget), *calls.search(self.audit, words), *trimmed]
 
     def budgets(self):
-        """All contests by one call have nodes alone."""
+        """The budgets to choose from. If one call audits all contests, only nodes can be given."""
         return {words: told for words, told in BUDGETS.items() if self.audit.kind != CONTESTS or not words.startswith("--sets")}
 
     def advised(self):
@@ -154,13 +154,13 @@ class Plan(Step):
         return BEST if self.audit.kind == POLL else 100
 
     def planned_draws(self):
-        """The draws that are enough for all assertions, of contests that need no full count; None if there are none."""
+        """The draws that are enough for all assertions of the contests that don't need a full count; None if there are none."""
         files = [f"plan_{each.number}.txt" for each in self.audit.audited()] if self.audit.kind == CONTESTS else ["plan.txt"]
         told = [self.audit.text(name).rsplit("all: ", 1)[-1].split(" ")[0] for name in files]
         return max((int(draws) for draws in told if draws.isdigit()), default=None)
 
     def hours(self, figures):
-        """The different cards and the hours that an office's own figures make of a number of draws; None if the figures can't be used."""
+        """The number of different cards and the hours for a number of draws, by an office's own figures; None if the figures can't be used."""
         try:
             draws, minutes, teams = int(figures["draws"]), float(figures["minutes"]), int(figures["teams"])
         except (KeyError, ValueError):
@@ -197,7 +197,7 @@ class Terms(Step):
 
 
 def hours_of(draws, cards, minutes, teams):
-    """The different cards that a number of draws is likely to take, and the hours of fetching and reading them."""
+    """The number of different cards that a number of draws is likely to take, and the hours it takes to fetch and read them."""
     different = cards * (1 - (1 - 1 / cards) ** draws)
     return round(different), round(different * minutes / 60 / teams, 1)
 
@@ -224,7 +224,7 @@ class Seed(Step):
 
 
 def seed_of(form):
-    """The seed, if both fields have the same."""
+    """The seed, if both fields have the same text."""
     seed, again = form.values.get("seed", ""), form.values.get("again", "")
     if not 1 <= len(seed) <= MOST_SEED_BYTES or not all(" " <= c <= "~" for c in seed):
         raise Wrong(f"A seed has 1 to {MOST_SEED_BYTES} characters: letters without accents, digits, punctuation and blanks.")

@@ -16,7 +16,7 @@ from steps import heads_of, Step
 
 
 class Drawn(NamedTuple):
-    """A number of draws before it is confirmed: the cards that it takes, the new ones of them, and the number that the terms have."""
+    """A number of draws before it is confirmed: the cards that it takes, how many of them are new, and the number that the terms have."""
     draws: int
     before: int
     cards: int
@@ -28,7 +28,7 @@ class Fetch(Step):
     key, title = "fetch", "Round {number}: cards to fetch"
 
     def before(self):
-        """The draws of the rounds before this one."""
+        """The number of draws of the rounds before this one."""
         earlier = [each.draws for each in self.audit.rounds() if each.number < self.number]
         return earlier[-1] if earlier else 0
 
@@ -36,7 +36,7 @@ class Fetch(Step):
         return readings.cards_of(self.audit, self.number)
 
     def draws(self):
-        """The draws of this round and those before it, once it is done."""
+        """The number of draws of this round and those before it, when the round is done."""
         return self.audit.rounds()[self.number - 1].draws
 
     def advised(self):
@@ -47,7 +47,7 @@ class Fetch(Step):
         return form.number("draws", "The number of draws, which counts all so far,", self.before() + 1, MOST_DRAWS)
 
     def preview(self, form):
-        """What the draws come to, to be looked at before they are made."""
+        """The result of the draws, to look at before they are made."""
         draws, seed, cards, before = self.typed(form), self.audit.seed, self.audit.cards, self.before()
         places = [plain_risk.drawn(seed, k, cards) for k in range(1, draws + 1)]
         return Drawn(draws, before, len(set(places)), len(set(places) - set(places[:before])), self.advised())
@@ -80,13 +80,13 @@ class Read(Step):
         return readings.differences(drafts)
 
     def finish(self):
-        """The drafts are files of the record now."""
+        """Drops the drafts, which are files of the record now."""
         for reader in READERS:
             self.audit.folder.drop_draft(readings.name_of(self.number, reader))
 
 
 def end_drafts(audit):
-    """Drops drafts that a desk left which was killed once they were taken."""
+    """Drops the drafts that a desk left behind if it was killed after they were taken."""
     for round in audit.rounds():
         step = Read(audit, round.number)
         if step.is_done:
@@ -134,7 +134,7 @@ class End(Step):
 
 
 def likely_draws(risk, draws, limit, cards):
-    """How many draws are likely to be enough, if the next cards are like those so far; None if a full count is less work."""
+    """The number of draws likely to be enough if the next cards are like those so far; None if a full count is less work."""
     if not 0 < risk < 1:
         return None
     needed = math.ceil(draws * math.log(limit) / math.log(risk))

@@ -1,4 +1,4 @@
-"""The page of terms: what is fixed and published before anybody knows the seed."""
+"""Makes the page of terms: what is fixed and published before anybody knows the seed."""
 import textwrap
 
 from audit import BALLOTS, BEST, BOXES, COMPARISON, CONTESTS, MANIFEST, PLURALITY, POLL
@@ -50,7 +50,7 @@ def text_of_terms(audit, rounds, how):
 
 
 def contest_rows(audit, subject):
-    """What is audited. Of all contests of a file: each that is, when its audit ends, and each that isn't."""
+    """The rows about what is audited. If it is all contests of a file: each contest that is audited, when its audit ends, and each that isn't."""
     if audit.kind != CONTESTS:
         return [("Contest", subject)]
     left = [f"{each.id} ({UNDECIDED[audit.text(f'undecided_{each.number}.txt').split()[0]]})" for each in audit.undecided()]
@@ -62,7 +62,7 @@ def contest_rows(audit, subject):
 
 
 def counted(audit):
-    """The ballots that were cast and the cards of the manifest; of one contest whose records name cards also these records."""
+    """The number of ballots cast and of cards in the manifest. For one contest whose records name cards, also the number of these records."""
     told = f"{int(audit.choices['cast'])} ballots cast, {audit.cards} cards in the manifest"
     if audit.kind not in (COMPARISON, PLURALITY):
         return told
@@ -71,7 +71,7 @@ def counted(audit):
 
 
 def row_of(row):
-    """A row, with further lines below the beginning of its text."""
+    """A row, with further lines aligned below the beginning of its text."""
     name, text = row
     return textwrap.fill(text, WIDTH, initial_indent=f"{name:{INDENT}}", subsequent_indent=" " * INDENT, break_long_words=False, break_on_hyphens=False) + "\n"
 

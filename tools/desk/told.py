@@ -1,4 +1,4 @@
-"""The answers of the commands in words and numbers, for the pages: read from the files that the commands made, and from nothing else."""
+"""The answers of the commands in words and numbers, for the pages. They are read only from the files that the commands made."""
 import functools
 import re
 from typing import NamedTuple
@@ -24,19 +24,19 @@ class Risk(NamedTuple):
     risk: str
     share: float  # of the limit
     is_confirmed: bool
-    by_draw: str  # of a poll that looks after each draw: the one that confirms it
-    likely: int  # draws that are likely to be enough; None if no number is
+    by_draw: str  # for a poll that looks after each draw: the draw that confirms it
+    likely: int  # draws that are likely to be enough; None if no number of draws is
 
 
 class Counted(NamedTuple):
-    """A contest after a round: its assertions, whether it is signed off, and the lines of one that has no assertions."""
+    """A contest after a round: its assertions, whether it is signed off, and its lines if it has no assertions."""
     title: str
     risks: list
     is_signed_off: bool
     lines: list
 
     def likely(self):
-        """The draws that are likely to confirm what isn't confirmed; None if no number is."""
+        """The draws that are likely to confirm what isn't confirmed yet; None if no number of draws is."""
         open_ones = [each.likely for each in self.risks if not each.is_confirmed]
         return None if not open_ones or None in open_ones else max(open_ones)
 
@@ -63,19 +63,19 @@ def assertions(audit, name):
 
 
 def called_in(audit, file):
-    """What candidates of the contest of an assertion file are called."""
+    """The names of the candidates of an assertion file's contest."""
     return functools.partial(audit.called, next(each for each in audit.contests if each.id == file["contest"]))
 
 
 def words_of_claims(audit, name):
-    """The assertions of a file in words, by how the commands print them, and by their numbers in a report."""
+    """The assertions of a file in words, by the text that the commands print for them, and by their numbers in a report."""
     file = audit.members(name)
     words = [(printed(claim), in_words(claim, called_in(audit, file))) for claim in file["assertions"]]
     return {**dict(words), **{f"assertion {at}": said for at, (_, said) in enumerate(words, 1)}}
 
 
 def words_of_plurality(audit):
-    """The claims of a plurality contest in words, by their numbers in a report: one for each candidate but the leader, in the order of the ballot file."""
+    """The claims of a plurality contest in words, by their numbers in a report: one for each candidate except the leader, in the ballot file's order."""
     leader = first_preferences(audit)[0].candidate
     others = [each for each in audit.contest.candidates if each != leader]
     called = functools.partial(audit.called, audit.contest)
@@ -83,14 +83,14 @@ def words_of_plurality(audit):
 
 
 def plan(text, words):
-    """The rows of a plan, with its assertions in words, and what it says of all assertions."""
+    """The rows of a plan, with its assertions in words, and what it says about all assertions."""
     *rows, last = text.splitlines()
     found = [match.groupdict() for match in map(LINE_OF_PLAN.fullmatch, rows) if match]
     return [{**row, "what": words.get(row["what"], row["what"])} for row in found], last.removeprefix("all: ")
 
 
 def rounds(audit, number):
-    """What a round came to: a contest after the other."""
+    """The result of a round, contest by contest."""
     round = audit.rounds()[number - 1]
     text = audit.text(audit.answer_of(round))
     if audit.kind == CONTESTS:
@@ -141,14 +141,14 @@ def counts_of_boxes(text):
 
 
 def boxes_of_contests(audit):
-    """What ./raire boxes prints of each contest, and its lines about batches that no record names."""
+    """What ./raire boxes prints about each contest, and its lines about batches that no record names."""
     lines = audit.text(BOXES).splitlines()[1:]
     of_contests = [(each, line.removeprefix(f"contest {each.id}: ")) for each, line in zip(audit.contests, lines)]
     return of_contests, lines[len(of_contests):]
 
 
 def table_of_trials(answers, audit):
-    """What plans with other limits and gammas say of all assertions, contest by contest."""
+    """What plans with other limits and gammas say about all assertions, contest by contest."""
     found = {}
     for line, text in answers:
         options = dict(word.removeprefix("--").split("=") for word in line.words if word.startswith("--"))

@@ -1,10 +1,9 @@
 #!/usr/bin/python3
 """Says in one line what a refusal of the program means, which record it is about, and what is nearly right.
 
-tools/hints/hint.py PROGRAM STATUS WORDS.. is what ./raire asks behind a refusal, and behind a budget that is spent, of which the words alone tell
-which one goes further. It runs the program once more, for the line that the refusal
-had, and looks into the files that the words name. It prints nothing where the program answers otherwise now, or where a file is none that
-can be read twice. What a rule means stands in docs/faults.md.
+./raire runs tools/hints/hint.py PROGRAM STATUS WORDS.. after a refusal, and after a budget that ran out, for which the words are enough to say what
+budget goes further. It runs the program again to get the line of the refusal, and looks into the files that the words name. It prints nothing if the
+program now answers differently, or if a file can't be read twice. docs/faults.md says what each rule means.
 """
 import os
 import stat
@@ -26,7 +25,7 @@ OF_MANIFEST = {"M2": rules.batch_fields, "M3": rules.batch_cards, "M4": rules.ba
 
 
 def is_read_again(path):
-    """A file, a folder, or nothing: no pipe, which has been read to its end."""
+    """Whether a path can be read again: it is a file, a folder, or nothing, not a pipe, which has been read to its end."""
     try:
         mode = os.stat(path).st_mode
     except OSError:
@@ -35,13 +34,13 @@ def is_read_again(path):
 
 
 def told_by(program, line, status):
-    """What the program says of these words now, if it refuses them as it did."""
+    """What the program says about these words now, if it refuses them with the same status as before."""
     ran = subprocess.run([program, *line], stdin=subprocess.DEVNULL, stdout=subprocess.DEVNULL, stderr=subprocess.PIPE)
     return ran.stderr.decode() if ran.returncode == status else None
 
 
 def refusal_in(text, call):
-    """The file that a line names, and what it says of it."""
+    """The file that a line names, and what the line says about it."""
     for path in sorted(set(call.files.values()), key=len, reverse=True):
         if text.startswith(f"raire: {path}: "):
             return path, text[len(f"raire: {path}: ") :].rstrip("\n")
@@ -49,7 +48,7 @@ def refusal_in(text, call):
 
 
 def found(call, path, said):
-    """The sentences about the place that the refusal told."""
+    """The sentences about the place that the refusal reported."""
     rule, *rest = said.split()
     at = int(rest[-1]) if rest and rest[-1].isdigit() else 0
     data = rules.data_of(path)
@@ -108,12 +107,12 @@ def found_of_seen(call, data, rule, at):
 
 
 def contest_of(call):
-    """The contest that is meant: of an audit that of its session."""
+    """The contest that is meant: for an audit, that of its session."""
     return rules.json_members(rules.data_of(call.files["SESSION"]))["contest"] if "SESSION" in call.files else call.options.get("contest")
 
 
 def contest_at_hand(call):
-    """The contest that is asked for, or the only one of the ballot file, and its candidates."""
+    """The contest that is given, or the only one of the ballot file, and its candidates."""
     heads = rules.heads_of(rules.data_of(call.files["BALLOTS"]))
     contest = call.options.get("contest") or next(iter(heads))
     return contest, heads[contest][0]
@@ -124,7 +123,7 @@ def seed_of(call):
 
 
 def candidates_of(call):
-    """Those of the ballot file, or of the assertion file where there are no ballots."""
+    """The candidates of the ballot file, or of the assertion file if there are no ballots."""
     if "BALLOTS" not in call.files:
         return rules.json_members(rules.data_of(call.files["ASSERTIONS"]))["candidates"]
     return rules.heads_of(rules.data_of(call.files["BALLOTS"]))[contest_of(call)][0]
@@ -134,7 +133,7 @@ FOUND = {"no such file": rules.no_such_file, "too long": rules.size, "read fault
 
 
 def spent(call):
-    """Which budget goes further, by the words alone: that of sets, where the command has it."""
+    """The budget that goes further, from the words only: that of sets, if the command has it."""
     options = next(form.options for form in words.forms()[call.command] if "nodes" in form.options)
     name = "sets" if "sets" in options else "nodes"
     most = options[name].high
@@ -145,7 +144,7 @@ def spent(call):
 
 
 def sentences(program, status, line):
-    """What is said of a refusal or of a spent budget, a sentence each; none where nothing can be."""
+    """The sentences about a refusal or a budget that ran out; none if nothing can be said."""
     if status == 1:
         try:
             words.call_of(line)

@@ -1,4 +1,4 @@
-"""What is nearly right: the name that was meant, or an id that could stand for one that is none."""
+"""Finds what is nearly right: the name that was meant, or an id that could replace a text that isn't one."""
 import difflib
 import unicodedata
 
@@ -15,26 +15,26 @@ def is_id(text):
 
 
 def letters(text):
-    """A text without accents, case and marks."""
+    """A text without accents, case and punctuation."""
     plain = unicodedata.normalize("NFKD", shown(text, 1_000)).casefold()
     return "".join(c for c in plain if c.isalnum() and c.isascii())
 
 
 def nearest(text, names):
-    """The one of these names that was probably meant, or None: never one that looks as the text does."""
+    """The name among these that was probably meant, or None. It is never a name that looks the same as the text."""
     names = [name for name in list(names)[:MOST_LOOKED_AT] if quoted(name) != quoted(text)]
     alike = [name for name in names if letters(name) == letters(text) != ""]
     return next(iter(alike or difflib.get_close_matches(text, names, 1, ALIKE)), None)
 
 
 def meant(text, names, else_told, dashes=""):
-    """What is nearly right, or what else is told."""
+    """Words about the closest match, or the other text if there is none."""
     near = nearest(text, names)
     return f"the closest match is {quoted(dashes + near)}" if near else else_told
 
 
 def in_plain_letters(text):
-    """An id that could be written for this text, or None. Of a text that no line can show nobody knows what was meant."""
+    """An id that could be written for this text, or None. If a text can't be shown on a line, nobody knows what it was meant to be."""
     if not decoded(text).isprintable():
         return None
     plain = unicodedata.normalize("NFKD", shown(text, 1_000)).encode("ascii", "ignore").decode()
@@ -43,7 +43,7 @@ def in_plain_letters(text):
 
 
 def why_no_id(text, most=MOST_NAME_BYTES):
-    """Why this text is no id of so many bytes at most."""
+    """Why this text isn't an id of at most this many bytes."""
     if text == "":
         return "The id is empty"
     if len(text) > most:

@@ -1,4 +1,4 @@
-"""The records of a comma-separated file, by their numbers, with the lines where they stand."""
+"""The records of a comma-separated file, by their numbers, with the lines where they are."""
 import csv
 import io
 from typing import NamedTuple
@@ -8,14 +8,14 @@ csv.field_size_limit(2**31 - 1)
 
 
 class Record(NamedTuple):
-    number: int  # as refusals count
-    line: int  # of the file
+    number: int  # as refusals count records
+    line: int  # the line of the file
     fields: list
     text: str
 
 
 class Lines:
-    """The lines of a text, one after the other; those of the record at hand are kept."""
+    """The lines of a text in order. The lines of the current record are kept."""
 
     def __init__(self, text):
         self.lines, self.count, self.taken = io.StringIO(text, newline=""), 0, []
@@ -45,17 +45,17 @@ def records(data):
 
 
 def record_at(data, number):
-    """The record of this number, or None where the file ends before it."""
+    """The record with this number, or None if the file ends before it."""
     return next((record for record in records(data) if record.number == number), None)
 
 
 def has_line_end(text):
-    """Of a field: it goes on behind the end of a line, so its quote isn't closed in that line."""
+    """Whether a field continues after the end of a line, so that its quote isn't closed in that line."""
     return "\n" in text or "\r" in text
 
 
 def decoded(text):
-    """A text of a file as UTF-8, where it is that."""
+    """A text from a file as UTF-8, if it is that."""
     try:
         return text.encode("latin-1").decode("utf-8")
     except UnicodeError:
@@ -63,7 +63,7 @@ def decoded(text):
 
 
 def shown(text, most=120):
-    """A text of a file on one line: nothing that a terminal obeys, and no longer than `most`."""
+    """A text from a file on one line, without anything that a terminal obeys, and no longer than `most`."""
     text = "".join(c if c.isprintable() else c.encode("unicode_escape").decode() for c in decoded(text).rstrip("\r\n"))
     return text if len(text) <= most else text[: most - 2] + ".."
 
@@ -73,6 +73,6 @@ def quoted(text):
 
 
 def listed(texts, most=12):
-    """Some of these, each in quotes, and how many there are besides."""
+    """Some of these texts, each in quotes, and the number of the others."""
     told = ", ".join(map(quoted, texts[:most]))
     return told if len(texts) <= most else f"{told} and {len(texts) - most} more"

@@ -1,7 +1,7 @@
-"""What is found where a rule is broken: the record and its line, the word that is wrong, and what is nearly right.
+"""Finds the details of a broken rule: the record and its line, the word that is wrong, and what is nearly right.
 
-It judges no file: that a rule is broken, and where, the program has said. Each function answers some sentences, of the files that
-the call names and the place that the program told.
+It judges no file: the program has already said that a rule is broken, and where. Each function returns some sentences, from the files that the call
+names and the place that the program reported.
 """
 import errno
 import hashlib
@@ -16,7 +16,7 @@ from table import limits
 
 MOST_UNREAD = 1_000
 BLANK = "\u2423"
-MOST_CONTESTS = 3  # of which all cards are told
+MOST_CONTESTS = 3  # contests whose cards are all listed
 
 
 def data_of(path):
@@ -30,7 +30,7 @@ def where(record):
 
 
 def looks_like(data):
-    """What a file seems to be, to say that it was given in another one's place."""
+    """What a file seems to be, to say that it was given in place of another one."""
     first = record_at(data[:65_536], 1)
     if data.lstrip()[:1] in (b"{", b"["):
         members = json_members(data)
@@ -46,7 +46,7 @@ def looks_like(data):
 
 
 def begins(data, wanted):
-    """How a file begins that isn't of the kind that is wanted."""
+    """How a file begins that isn't of the kind that is needed."""
     if not data.strip():
         return "The file is empty; a > after the command empties its file first"
     kind = looks_like(data)
@@ -58,18 +58,18 @@ def begins(data, wanted):
 
 
 def semicolons(record):
-    """Where a record has semicolons and no comma, that these stand where commas have to."""
+    """A note that a record has semicolons where commas must be, if it has semicolons and no comma."""
     return "; its semicolons have to be commas" if record and ";" in record.text and "," not in record.text else ""
 
 
 def no_header(record, wanted):
-    """B1 of a record that is the header of a table, or a contest's."""
+    """B1 for a record that is the header of a table or of a contest."""
     is_header = wanted == "a ballot file" and record and is_id(record.fields[0]) and not re.search("[0-9]", record.fields[0])
     return "; a ballot file has no header: its first record is the number of contests" if is_header else ""
 
 
 def nearly_a_manifest(record, wanted):
-    """M1 of a record that begins with the two words."""
+    """M1 for a record that begins with the two words."""
     words, more = (record.fields[:2], record.fields[2:]) if record else ([], [])
     if wanted != "a manifest" or [word.lower() for word in words] != ["batch", "cards"]:
         return ""
@@ -102,7 +102,7 @@ def is_number(text, low, most):
 # ---- ballot files
 
 def heads_of(data):
-    """Of each contest at the head of a ballot file its candidates and its record."""
+    """The candidates and the record of each contest at the head of a ballot file."""
     found, count = {}, None
     for record in records(data):
         fields = record.fields
@@ -119,7 +119,7 @@ def heads_of(data):
 
 
 def contest_record(data, at):
-    """B2: what a contest's record has to begin with."""
+    """B2: what a contest's record must begin with."""
     record = record_at(data, at)
     if record is None:
         return [f"The file ends before record {at}"]
@@ -147,7 +147,7 @@ def number_of_candidates(data, at):
 
 
 def wrong_id(data, at):
-    """B4: of a contest's record any of its ids, of a ballot its own."""
+    """B4: any of the ids in a contest's record, or the ballot's own id in a ballot."""
     record = record_at(data, at)
     fields = record.fields
     ids = fields[1:2]
@@ -169,7 +169,7 @@ def contest_asked_for(data, asked):
 
 
 def contest_of_session(data, name):
-    """B5 where the contest is that of a session"""
+    """B5 if the contest is that of a session"""
     return [f"The session is of contest {quoted(name)}, and the file has {listed(list(heads_of(data)))}"]
 
 
@@ -192,7 +192,7 @@ def is_none(what, text, names, who_has):
 
 
 def no_candidate(record, preferences, ids):
-    """B8 and V5: the first preference that is nobody's id."""
+    """B8 and V5: the first preference that isn't the id of a candidate."""
     wrong = next(text for text in preferences if text and text not in ids)
     return [is_none("candidate", wrong, ids, "the contest has"), where(record)]
 
@@ -204,7 +204,7 @@ def ranked_nobody(data, at):
 
 
 def stood_before(data, at, fields):
-    """B9 and V3: the record that had these fields first."""
+    """B9 and V3: the first record that has these fields."""
     record = record_at(data, at)
     had = next(had for had in records(data) if had.fields[:fields] == record.fields[:fields] and had.number > number_of_heads(data, fields))
     return [f"{quoted(record.fields[fields - 1])} is also in record {had.number}, line {had.line}", where(record)]
@@ -267,7 +267,7 @@ def batches_of(data):
 
 
 def no_card(name, batches):
-    """Why no card of these batches has this id: M7 and V2."""
+    """M7 and V2: why no card of these batches has this id."""
     batch, _, number = name.rpartition("_")
     if not batch:
         return f"{quoted(name)} isn't an id of a card: that is batch, _ and number"
@@ -306,7 +306,7 @@ def seen_record(data, at, has_contest):
 
 
 def seen_twice(data, at):
-    """V3 of a card in a contest: the record that had both first."""
+    """V3 for a card in a contest: the first record that has both."""
     record = record_at(data, at)
     had = next(had for had in records(data) if had.fields[:2] == record.fields[:2])
     return [f"{quoted(record.fields[0])} is also with {quoted(record.fields[1])} in record {had.number}, line {had.line}", where(record)]
@@ -318,7 +318,7 @@ def other_contest_seen(record, ballots):
 
 
 def drawn_cards(seed, manifest, draws):
-    """The cards of these draws, in the order of their first ones, each with that draw."""
+    """The cards of these draws, in the order of their first draws, each with its first draw."""
     sys.path.append(os.path.join(os.path.dirname(os.path.dirname(os.path.dirname(os.path.abspath(__file__)))), "plain"))
     import plain_audit
 
@@ -335,7 +335,7 @@ def unread(seed, manifest, seen, draws):
 
 
 def other_draws(seed, read, drawn):
-    """That the draws may be others than those that were read for, if most of their cards aren't read."""
+    """A note that the cards may have been read for other draws, if most of the drawn cards aren't read."""
     if 2 * len(drawn.keys() - read) <= len(drawn):
         return []
     shown = quoted(seed.replace(" ", BLANK)) + f", where each {BLANK} is a blank" * (" " in seed)
@@ -348,7 +348,7 @@ def told_unread(left, drawn, of):
 
 
 def unread_in_contests(seed, manifest, seen, draws, ballots, k):
-    """V4 of all contests: the same of the contests whose first card without a record is that of draw k. Those that are tied may be among them."""
+    """V4 for all contests: the same for the contests whose first card without a record is that of draw k. Tied contests may be among them."""
     read, drawn = {tuple(record.fields[:2]) for record in records(seen)}, drawn_cards(seed, manifest, draws)
     left = {name: [card for card in drawn if (card, name) not in read] for name in heads_of(ballots)}
     meant = [name for name, cards in left.items() if cards and drawn[cards[0]] == k]
@@ -361,7 +361,7 @@ def unread_in_contests(seed, manifest, seen, draws, ballots, k):
 
 
 def without_contest(left, meant, ballots):
-    """The unread cards that have no record of the contest, most of which don't have it: how that is written."""
+    """How to write that a card doesn't have the contest, for the unread cards without a record of it. Most of these don't have it."""
     recorded = {tuple(record.fields[:2]) for record in records(ballots)}
     found = [f"{card},{name},ballot" for name in meant[:MOST_CONTESTS] for card in left[name] if (name, card) not in recorded]
     told = f"{len(found)} of these {'has' if len(found) == 1 else 'have'} no record in the ballot file"
@@ -372,14 +372,14 @@ def without_contest(left, meant, ballots):
 
 MEMBERS = ("assertions", "candidates", "contest", "margin", "records", "version", "winner")
 OF_ASSERTION = ("kind", "loser", "margin", "winner")
-TERMS = ("cards", "gamma", "limit")  # of a plan, as the draws of each assertion are
-COVER_VERSION = 3  # of a file without an order
+TERMS = ("cards", "gamma", "limit")  # members of a plan, like the draws of each assertion
+COVER_VERSION = 3  # the version of a file without an order
 NUMBERS = ("margin", "records", "version", *TERMS)
 OF_SESSION = ("assertions", "ballots", "cards", "contest", "gamma", "limit", "manifest", "margins", "rounds", "seed", "signed_off", "version")
 
 
 def no_json(data, wanted):
-    """F1, and S1 of what is no JSON."""
+    """F1, and S1 for a file that isn't JSON."""
     if not data.strip() or looks_like(data) not in (None, "an assertion file", "a session"):
         return [begins(data, wanted)]
     try:
@@ -413,7 +413,7 @@ def are_texts(value):
 
 
 def kinds():
-    """Of each member what it may be, in words, and whether a value is that. The draws of an assertion may be null besides, and have words of their own."""
+    """For each member, what it may be, in words, and whether a value is that. The draws of an assertion may also be null, and have words of their own."""
     return {
         "assertions": ("a list", lambda value: isinstance(value, list)), "kind": ('"NEB" or "NEN"', lambda value: value in ("NEB", "NEN")),
         **dict.fromkeys(("contest", "loser", "winner"), ("a text in quotes", is_text)),
@@ -423,7 +423,7 @@ def kinds():
 
 
 def wrong_member(value, members):
-    """F2: a member that isn't there, or is of another kind."""
+    """F2: a member that is missing, or of another kind."""
     told = missing(value, members)
     if told:
         return told
@@ -466,7 +466,7 @@ def wrong_list(file):
 
 
 def wrong_order(names, wanted, what):
-    """F5: who stands twice in the order or the rest, or is lacking there."""
+    """F5: who is in the order or the rest twice, or is missing there."""
     if twice(names) is not None:
         return f"{quoted(twice(names))} is repeated in the {what}"
     lacks = [name for name in wanted if name not in names]
@@ -478,7 +478,7 @@ def is_cover(file):
 
 
 def is_planned(file):
-    """Whether the members of a plan are wanted: in version 2, and in one without an order if it has any of them."""
+    """Whether the members of a plan are needed: in version 2, and in the version without an order if the file has any of them."""
     return isinstance(file, dict) and (file.get("version") == 2 or (is_cover(file) and not file.keys().isdisjoint(TERMS)))
 
 
@@ -492,7 +492,7 @@ def wrong_margin(file, margin):
 
 
 def wrong_terms(file):
-    """F6 of what a plan has at its head"""
+    """F6 for what a plan has at its head"""
     if not is_planned(file):
         return None
     if file["cards"] < file["records"]:
@@ -505,7 +505,7 @@ def wrong_terms(file):
 
 
 def wrong_draws(file, one):
-    """F2 and F6 of an assertion with draws: what these are."""
+    """F2 and F6 for an assertion with draws: what these are."""
     if not is_planned(file) or not isinstance(one, dict) or one.get("draws") is None:
         return None
     if not is_counted(one["draws"]):
@@ -514,7 +514,7 @@ def wrong_draws(file, one):
 
 
 def wrong_part(file, one):
-    """F2 of an assertion"""
+    """F2 for an assertion"""
     is_nen = isinstance(one, dict) and one.get("kind") == "NEN"
     told = wrong_member(one, OF_ASSERTION + ("rest",) * is_nen + ("draws",) * is_planned(file)) or wrong_draws(file, one)
     if told is None and is_cover(file) and not is_planned(file) and "draws" in one:
@@ -523,7 +523,7 @@ def wrong_part(file, one):
 
 
 def wrong_name(file, one):
-    """F4 of an assertion"""
+    """F4 for an assertion"""
     told = wrong_candidate(file, [one["winner"], one["loser"], *(one.get("rest") or [])])
     return told or f"{quoted(one['winner'])} is its winner and its loser"
 
@@ -552,7 +552,7 @@ OF_CLAIM = ("kind", "loser", "winner")
 
 
 def claims(data, rule, at, contest, ids):
-    """C2 to C5: what is wrong with the file's own members, or with one assertion, for this contest of these candidates."""
+    """C2 to C5: what is wrong with the file's own members, or with one assertion, for this contest with these candidates."""
     file = json_members(data)
     if at == 0:
         return [part for part in [wrong_claims(rule, file, contest, ids)] if part]
@@ -574,7 +574,7 @@ def wrong_claims(rule, file, contest, ids):
 
 
 def wrong_claim(rule, one, ids):
-    """C2, C4 and C5 of an assertion"""
+    """C2, C4 and C5 for an assertion"""
     is_nen = isinstance(one, dict) and one.get("kind") == "NEN"
     if rule == "C2":
         return wrong_member(one, OF_CLAIM + ("rest",) * is_nen)
@@ -602,17 +602,17 @@ def no_session(data):
 
 
 def other_bytes(expected, paths):
-    """S2: which file of the call has the digest of the session."""
+    """S2: the file of the call that has the digest in the session."""
     named = [path for path in paths if hashlib.sha256(data_of(path)).hexdigest() == expected]
     return [f"{quoted(named[0])} has the first digest; see the order of the files"] if named else []
 
 
-# The digest of no bytes: what a session of plurality has in place of that of an assertion file.
+# The digest of no bytes: a plurality session has it instead of the digest of an assertion file.
 NO_ASSERTIONS = hashlib.sha256(b"").hexdigest()
 
 
 def other_audit(command):
-    """S2, where a session of plurality is given to audit, or the other way round."""
+    """S2 if a plurality session is given to `audit`, or the other way around."""
     if command == "plurality":
         return ["The session was opened with an assertion file; audit continues it"]
     return ["The session is one of plurality, which has no assertion file; plurality continues it"]
@@ -631,7 +631,7 @@ def no_such_file(path):
 
 
 def unreadable(path):
-    """Why a file can't be read, as the system says where it is read once more."""
+    """Why a file can't be read, by what the system says when it is read again."""
     try:
         with open(path, "rb") as file:
             file.read(most_of("MOST_FILE_BYTES") + 1)
@@ -650,7 +650,7 @@ def why_unreadable(path, fault):
 
 
 def file_before(path):
-    """The part of a path that goes through a file as if it were a folder."""
+    """The file that a path goes through as if it were a folder."""
     parent = os.path.dirname(path)
     while parent and not os.path.exists(parent):
         path, parent = parent, os.path.dirname(parent)

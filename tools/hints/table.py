@@ -1,11 +1,11 @@
-"""What a line of a refusal means: the tables of docs/faults.md, with the limits of docs/formats.md in place of their names."""
+"""What the line of a refusal means: the tables of docs/faults.md, with the limits of docs/formats.md in place of their names."""
 import os
 import re
 
 DOCS = os.path.join(os.path.dirname(os.path.dirname(os.path.dirname(os.path.abspath(__file__)))), "docs")
-# What the program says, and none of the tools beside it: a line of theirs begins with their name.
+# What the program itself says, not the tools around it: a tool's line begins with the tool's name.
 KEYS = re.compile(r"`(?:raire: (?:<[a-z]+>: )?)?([BCFMSV][0-9]+|bad words|no such file|too long|read fault)\b")
-OF_A_SESSION = ", of a session"  # a row about a call that has one
+OF_A_SESSION = ", of a session"  # a row about a call that has a session
 OF_CONTESTS = ", of all contests"  # a row about `contests`
 
 
@@ -18,7 +18,7 @@ def rows(page):
 
 
 def limits():
-    """The number of each limit that formats.md tells, as it is written there."""
+    """The number of each limit in formats.md, as it is written there."""
     found = {}
     for cells in rows("formats.md"):
         if len(cells) == 4:
@@ -29,13 +29,13 @@ def limits():
 
 
 def in_words(cell, numbers):
-    """A cell without its marks, and with the number of each limit."""
+    """A cell without its markup, and with the number of each limit."""
     text = re.sub(r"\[([^\]]*)\]\([^)]*\)", r"\1", cell)
     return re.sub("`([^`]*)`", lambda quoted: numbers.get(quoted[1], quoted[1]), text)
 
 
 def causes():
-    """Of each rule, and of each line that names none, the cause. The first row that has it counts. Numbers are written in digits alone, as in the files."""
+    """The cause for each rule, and for each line that names no rule. The first row that has it counts. Numbers have only digits, as in the files."""
     found, digits = {}, {name: number.replace(",", "") for name, number in limits().items()}
     for cells in rows("faults.md"):
         if len(cells) == 4 and cells[0].isdigit() and (key := KEYS.match(cells[1])):

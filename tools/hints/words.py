@@ -1,4 +1,4 @@
-"""The words of a command line, by the first lines of each page of docs/help: what they ask for, or which of them is wrong."""
+"""Reads the words of a command line by the first lines of each page of docs/help: what they ask for, or which of them is wrong."""
 import os
 import re
 from typing import NamedTuple
@@ -11,16 +11,16 @@ TOOLS = os.path.join(os.path.dirname(DOCS), "tools")
 
 
 class Wrong(Exception):
-    """The words are no command line; the text says which of them is wrong."""
+    """The words aren't a command line. The text says which of them is wrong."""
 
 
 class Option(NamedTuple):
     has_to_be_given: bool
     low: int
     high: int
-    stands_with: str  # the option without which this one is none, or nothing
-    in_place_of: str  # the option beside which it is none, or nothing
-    words: tuple = ()  # the words that it takes in place of a number
+    stands_with: str  # the option without which this one can't be given, or an empty text
+    in_place_of: str  # the option together with which it can't be given, or an empty text
+    words: tuple = ()  # the words that it takes instead of a number
     is_flag: bool = False  # it has no value
 
 
@@ -31,12 +31,12 @@ class Form(NamedTuple):
 
 class Call(NamedTuple):
     command: str
-    files: dict  # the names by what the help calls them, such as BALLOTS
+    files: dict  # the names of the files by what the help calls them, such as BALLOTS
     options: dict
 
 
 def pages():
-    """The name, the first lines and the text of each page but the one of all commands."""
+    """The name, the first lines and the text of each page, except the one about all commands."""
     for page in sorted(os.listdir(os.path.join(DOCS, "help"))):
         if page != "raire.txt":
             with open(os.path.join(DOCS, "help", page), encoding="utf-8") as file:
@@ -45,7 +45,7 @@ def pages():
 
 
 def forms():
-    """Of each command the forms of its lines, mostly one: its files and options."""
+    """The forms of each command's lines, usually one: the files and options."""
     found = {}
     for name, heads, text in pages():
         for head in heads:
@@ -56,7 +56,7 @@ def forms():
 
 
 def tools():
-    """What has a page and is no command of the program: ./raire runs it from tools/."""
+    """The names that have a page but aren't commands of the program: ./raire runs them from tools/."""
     return [name for name, _, _ in pages() if os.path.exists(os.path.join(TOOLS, name))]
 
 
@@ -84,7 +84,7 @@ def is_value(name, option, text):
 
 
 def call_of(words):
-    """What the words ask for. The first word that is wrong is told."""
+    """What the words ask for. The first word that is wrong is reported."""
     commands = forms()
     if not words or words[0] not in commands:
         told = quoted(words[0]) if words else "nothing"
@@ -121,7 +121,7 @@ def is_line(form, command, words):
 
 
 def likeness(form, words):
-    """How much words are like a line of this form: whether they have its flag, how many of its options they name, then how near they come to its
+    """How similar the words are to a line of this form: whether they have its flag, how many of its options they name, then how close they come to its
     number of files."""
     named = [word[2:].partition("=") for word in words if word.startswith("--")]
     files = sum(not word.startswith("-") for word in words) - sum(not equals for _, equals, _ in named)
@@ -130,7 +130,7 @@ def likeness(form, words):
 
 
 def call_by(form, command, words):
-    """What the words ask for by this form of the command's line."""
+    """What the words ask for, if they have this form of the command's line."""
     files, options = [], {}
     rest = list(words)
     while rest:
@@ -156,7 +156,7 @@ def call_by(form, command, words):
 
 
 def option_in(word, rest, command, form):
-    """The option of this word with its value, which may be the next word."""
+    """The option in this word and its value, which may be the next word."""
     name, has_value, text = word[2:].partition("=")
     if word in ("--help", "-h"):
         raise Wrong(f"{quoted(word)} isn't an option of {command}; its page: ./raire help {command}")
@@ -205,7 +205,7 @@ def judge_files(files, command, form, options):
 
 
 def split_names(files):
-    """Files whose names two words are, one behind the other, with a blank between."""
+    """The files whose names are two consecutive words with a blank between them."""
     return [name for name in map(" ".join, zip(files, files[1:])) if os.path.exists(name)]
 
 

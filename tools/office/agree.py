@@ -1,4 +1,4 @@
-"""Two readings of the same cards: written where both are the same, told where they aren't."""
+"""Compares two readings of the same cards: writes the reading if they are the same, and prints the differences if they aren't."""
 import itertools
 import os
 
@@ -18,7 +18,7 @@ def reading_of(path):
 
 
 def shown(reading, names):
-    """A reading in words."""
+    """A reading as words."""
     if reading == records.MISSING:
         return "missing"
     if isinstance(reading, records.Marks):
@@ -29,7 +29,7 @@ def shown(reading, names):
 
 
 def candidates_of(readings):
-    """The ids of all who are ranked or marked."""
+    """The ids of all candidates who are ranked or marked."""
     for reading in readings:
         if isinstance(reading, records.Marks):
             yield from (c for _, c in reading)
@@ -38,7 +38,7 @@ def candidates_of(readings):
 
 
 def names_of(given, ids):
-    """What the candidates are called, of the contest that is meant. Those who are read have these ids."""
+    """The names of the candidates of the contest that is meant. `ids` are those of the candidates in the readings."""
     if given.names is None:
         return {}
     try:
@@ -54,7 +54,7 @@ def names_of(given, ids):
 
 
 def differences(first, second, paths, names):
-    """A line for each card that was read otherwise, or that stands in one file alone."""
+    """A line for each card that was read differently, or that is in only one file."""
     for card, reading in first.items():
         if card not in second:
             yield f"{card}: only in {paths[0]}: {shown(reading, names)}"
@@ -66,7 +66,7 @@ def differences(first, second, paths, names):
 
 
 def see_kinds(readings, paths):
-    """One file of marks and one of rankings differ on each card, whatever was read: that is no work for people."""
+    """Refuses a file of marks with a file of rankings. They differ on every card, whatever was read, so people needn't look at the cards."""
     kinds = [{type(reading) for reading in each.values()} - {str} for each in readings]
     if kinds in ([{records.Marks}, {tuple}], [{tuple}, {records.Marks}]):
         with_marks = paths[kinds.index({records.Marks})]

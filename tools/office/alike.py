@@ -1,16 +1,16 @@
-"""Names that look alike to people: they differ at most by case, by blanks, and by the form in which letters are written."""
+"""Names that look alike to people: they differ only in case, in blanks, and in the form of their letters."""
 import unicodedata
 
 HOW = "look alike (case, blanks and letter forms don't count)"
 
 
 def folded(name):
-    """What names that look alike share."""
+    """The form of a name that is the same for all names that look like it."""
     return "".join(unicodedata.normalize("NFKC", unicodedata.normalize("NFKC", name).casefold()).split())
 
 
 def told_apart(named):
-    """The names of pairs of an id and a name. One that looks like another one has its id behind it, or, where ids look alike too, its number."""
+    """The names from pairs of an id and a name. A name that looks like another one is followed by its id, or by its number if the ids look alike too."""
     names = [name for _, name in named]
     for behind in ([each for each, _ in named], [f"candidate {number}" for number in range(1, len(named) + 1)]):
         looks = [folded(name) for name in names]

@@ -1,4 +1,4 @@
-"""Asks the program, and passes on what it refuses."""
+"""Asks the program, and passes on its refusals."""
 import os
 import shutil
 import subprocess
@@ -10,7 +10,7 @@ MOST_FILE_BYTES = 67_108_864  # of a file that the program reads
 
 
 class Refusal(Exception):
-    """Nothing is answered: the status, and what is told; `out` is what standard output has all the same."""
+    """There is no answer: the status, and what to print on standard error. `out` goes to standard output all the same."""
 
     def __init__(self, status, text, out=""):
         super().__init__(text)
@@ -18,7 +18,7 @@ class Refusal(Exception):
 
 
 def path_of_program(name):
-    """./raire of this clone, or what RAIRE names in the environment; `name` is the command that asks."""
+    """./raire of this clone, or the program that RAIRE names in the environment. `name` is the command that asks."""
     given, own = os.environ.get("RAIRE"), os.path.join(TOP, "raire")
     if not given:
         build(name, own)
@@ -30,7 +30,7 @@ def path_of_program(name):
 
 
 def build(name, own):
-    """Where there is no program yet, ./raire tells how far it is, on standard error."""
+    """Builds the program if there is none yet. ./raire reports its progress on standard error."""
     with share.away():
         built = subprocess.run([own, "--build"], stdin=subprocess.DEVNULL, stdout=subprocess.DEVNULL)
     if built.returncode:
@@ -38,7 +38,7 @@ def build(name, own):
 
 
 def ask(name, command, files, *options):
-    """The text of an answer with status 0. Any other one is a refusal with the program's own lines."""
+    """The text of an answer with status 0. Any other status is a refusal with the program's own lines."""
     words = [path_of_program(name), command, *options, "--", *files]
     try:
         ran = subprocess.run(words, stdin=subprocess.DEVNULL, capture_output=True, env={**os.environ, "RAIRE_QUIET": "1"})
@@ -53,7 +53,7 @@ def ask(name, command, files, *options):
 
 
 def read(name, path):
-    """The bytes of a file, with the statuses that the program has for one that can't be read."""
+    """The bytes of a file. A file that can't be read is refused with the program's own status for it."""
     try:
         with open(path, "rb") as file:
             data = file.read(MOST_FILE_BYTES + 1)

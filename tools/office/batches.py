@@ -1,4 +1,4 @@
-"""A manifest of the batches that can have a contest, and what a plan says on it and on the whole manifest."""
+"""Prints a manifest of the batches that can have a contest, and what a plan says about it and about the whole manifest."""
 import os
 import tempfile
 
@@ -7,7 +7,7 @@ from ask import ask, read, Refusal
 from words import see_output, Words
 
 NAME = "batches"
-STANDS_IN = "--seed=1"  # of a session that is opened to have the files judged, and then thrown away
+STANDS_IN = "--seed=1"  # the seed of a session that is opened only to have the files judged, and then thrown away
 PREMISE = "Make sure that no batch that is left out can have the contest, whatever its records say."
 
 
@@ -22,12 +22,12 @@ def words_of(words):
 
 
 def options_of(given, *names):
-    """Options that are passed on to the program, which judges them."""
+    """The options that are passed on to the program, which judges them."""
     return [f"--{name}={getattr(given, name)}" for name in names if getattr(given, name) is not None]
 
 
 def assertions_of(given, folder):
-    """The assertion file that is given, or the one that a search prints."""
+    """The path of the assertion file: the one that is given, or one with what a search prints."""
     if len(given.files) == 3:
         return given.files[2]
     path = os.path.join(folder, "assertions.json")
@@ -37,7 +37,8 @@ def assertions_of(given, folder):
 
 
 def own_batches(given):
-    """The batches that ballots of the contest name, and those that the office adds, in the order of the manifest; how many ballots."""
+    """The batches that ballots of the contest name and those that the office adds, in the order of the manifest; then the sizes of all batches,
+    the number of batches that are named, and the number of ballots."""
     ballots, manifest = (read(NAME, path) for path in given.files[:2])
     sizes = records.batches_of(manifest)
     contest = given.contest if given.contest is not None else next(iter(records.contests_of(ballots)))

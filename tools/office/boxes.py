@@ -1,4 +1,4 @@
-"""The cards of a manifest and the records that they have, counted before anything is drawn."""
+"""Counts the cards of a manifest and their records before anything is drawn."""
 import itertools
 import os
 import tempfile
@@ -20,7 +20,7 @@ def words_of(words):
 
 
 def judge(given, contest):
-    """Both files and the link between them, as `open` judges them: the file of assertions comes last, and this one is none."""
+    """Has both files and the link between them judged by `open`. It judges the assertion file last, and the empty file given here isn't one."""
     options = [f"--contest={contest}"] if contest is not None else []
     with tempfile.TemporaryDirectory() as folder:
         empty = os.path.join(folder, "none.json")
@@ -44,7 +44,7 @@ def cards_of(batches):
 
 
 def without(batches, recorded):
-    """How many cards have no record, and which."""
+    """A line with the number of cards that have no record, and which ones they are."""
     told = ", ".join(itertools.islice((card for card in cards_of(batches) if card not in recorded), MOST_TOLD))
     count = sum(batches.values()) - len(recorded)
     more = f" and {count - MOST_TOLD} more" if count > MOST_TOLD else ""
@@ -52,13 +52,13 @@ def without(batches, recorded):
 
 
 def unnamed(batches, recorded):
-    """The batches of which no record names a card."""
+    """The batches in which no record names a card."""
     named = {records.batch_of(card)[0] for card in recorded}
     return {batch: size for batch, size in batches.items() if batch not in named}
 
 
 def of_unnamed(batches, empty):
-    """A line for each of them. One with as many cards as all others together is most likely their total."""
+    """A line for each batch that no record names. A batch with as many cards as all others together is most likely their total."""
     cards = sum(batches.values())
     for batch, size in empty.items():
         total = "; ALL OTHERS TOGETHER HAVE AS MANY: a total that was left in the manifest?" if 2 * size == cards and len(batches) > 2 else ""
@@ -72,7 +72,7 @@ def counts(contest, batches, recorded):
 
 
 def counts_of_all(batches, recorded):
-    """The lines about several contests: a line for each, then the batches that no record of any names."""
+    """The lines about several contests: a line for each, then the batches that no record of any contest names."""
     yield f"cards {sum(batches.values())}"
     for contest, cards in recorded.items():
         empty = unnamed(batches, cards)
@@ -97,7 +97,7 @@ def answer(words):
 
 
 def contests_in(given):
-    """All contests of a file that has several, where none is named. What is no ballot file is for the program to refuse."""
+    """All contests of a file with several contests, if no contest is given. A file that isn't a ballot file is left for the program to refuse."""
     if given.contest is not None:
         return []
     try:

@@ -1,4 +1,4 @@
-"""What contests and candidates are called: a file with records contest,id,name, or id,name where it is about one contest."""
+"""The names of contests and candidates: a file with records contest,id,name, or id,name if it is about one contest."""
 import csv
 import io
 
@@ -8,11 +8,11 @@ HEADS = (["id", "name"], ["contest", "id", "name"])
 
 
 class BadNames(Exception):
-    """The file isn't one of names; the text begins with its path."""
+    """The file isn't a file of names. The text begins with its path."""
 
 
 class Called:
-    """The names of a file, which don't look alike within a contest. A record contest,,name without a candidate says what the contest is called."""
+    """The names in a file, no two of which look alike within a contest. A record contest,,name without a candidate names the contest."""
 
     def __init__(self, path, data, must_have_head=False):
         self.path, self.contests, self.candidates, self.looks = path, {}, {}, {}
@@ -38,14 +38,14 @@ class Called:
             self.see_looks(at, of[0] if of else None, key, name)
 
     def see_looks(self, at, contest, key, name):
-        """No name looks like one before it."""
+        """Refuses a name that looks like an earlier one."""
         before, other = self.looks.setdefault((contest, folded(name)), (at, key))
         if other != key:
             pair = f"record {before} calls {other} {self.candidates[contest][other]}, and record {at} calls {key} {name}"
             raise BadNames(f"{self.path}: {pair}; these names {HOW}: give each another one, such as {name} ({key})")
 
     def of(self, contest, ids=()):
-        """What the candidates of a contest are called, by their ids. Those of `ids` who have no name are shown by the id, which may look like no name."""
+        """The names of the candidates of a contest, by their ids. A candidate of `ids` without a name is shown by the id, which must not look like a name."""
         key = contest if self.has_contests else None
         names = self.candidates.get(key, {})
         for c in ids:
@@ -56,13 +56,13 @@ class Called:
         return names
 
     def contest(self, contest):
-        """A contest as people know it, with its id."""
+        """The name by which people know a contest, with its id."""
         name = self.contests.get(contest, contest)
         return name if name == contest else f"{name} ({contest})"
 
 
 def numbered(path, data):
-    """The records that aren't blank, numbered; a quote that isn't closed is no comma-separated text."""
+    """The records that aren't blank, numbered. A text with a quote that isn't closed isn't comma-separated text."""
     try:
         rows = list(csv.reader(io.StringIO(data.decode("utf-8-sig"), newline=""), strict=True))
     except (UnicodeDecodeError, csv.Error):
@@ -71,7 +71,7 @@ def numbered(path, data):
 
 
 class Nobody:
-    """Where no file of names is given, ids are shown."""
+    """Stands in for the names if no file of names is given: ids are shown."""
 
     has_contests = False
 

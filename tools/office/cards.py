@@ -1,4 +1,4 @@
-"""What is fetched for the draws of a seed, or all cards: as a table, a page with slips, a sheet to fill in, or a page to type readings into."""
+"""Lists the cards to fetch for the draws of a seed, or all cards: as a table, a page with slips, a sheet to fill in, or a page to type readings into."""
 import collections
 import hashlib
 import json
@@ -17,7 +17,7 @@ FORMS = ("page", "sheet", "entry")
 PAGES = os.path.join(TOP, "tools", "office")
 MOST_ON_A_PAGE = 5_000
 MOST_RANKS = 1_000
-WRITE_IN = "write-in"  # in a file of marks: a write-in who is no candidate
+WRITE_IN = "write-in"  # in a file of marks: a write-in who isn't a candidate
 
 Card = collections.namedtuple("Card", "id batch number draws place")
 
@@ -47,7 +47,7 @@ def words_of(words):
 
 
 def see_draws(parser, given):
-    """The cards are those of a seed's draws, or all of them."""
+    """Checks that the words ask either for the cards of a seed's draws or for all cards."""
     if given.all:
         for name in ("seed", "draws", "after"):
             if getattr(given, name) is not None:
@@ -63,7 +63,7 @@ def see_draws(parser, given):
 # ---- what is drawn
 
 def drawn(given):
-    """The draws of each card by its number, as the program tells them."""
+    """The draws of each card, by the card's number, as the program prints them."""
     lines = ask(NAME, "sample", [given.manifest], f"--seed={given.seed}", f"--draws={given.draws}")
     draws = {}
     for _, (draw, number, card) in records.rows_of(lines.encode()):
@@ -72,7 +72,7 @@ def drawn(given):
 
 
 def before(given):
-    """How many draws were fetched before."""
+    """The number of draws whose cards were fetched before."""
     if given.all:
         return 0
     draws, text = int(given.draws), "0" if given.after is None else given.after
@@ -82,7 +82,7 @@ def before(given):
 
 
 def fetched(given):
-    """The cards that no draw took before, by batch and then by number, and those that are drawn again."""
+    """The cards that no earlier draw took, by batch and then by number, and those that are drawn again."""
     if given.all:
         return all_cards(given), []
     draws = drawn(given)
@@ -98,7 +98,7 @@ def fetched(given):
 
 
 def all_cards(given):
-    """All cards of the manifest, or of the batches that are named, which may stand in any order."""
+    """All cards of the manifest, or of the batches that are named, in any order."""
     ask(NAME, "sample", [given.manifest], "--seed=1", "--draws=1")
     sizes, places = records.batches_of(read(NAME, given.manifest)), places_of(given)
     named = sizes if given.batch is None else dict.fromkeys(batch.strip() for batch in given.batch.split(","))
@@ -110,7 +110,7 @@ def all_cards(given):
 
 
 def places_of(given):
-    """Where each batch is kept, by a file with a record a batch."""
+    """Where each batch is kept, from a file with a record for each batch."""
     if given.places is None:
         return None
     batches = records.batches_of(read(NAME, given.manifest))
@@ -141,9 +141,8 @@ def broken(path, at, what):
 # ---- candidates
 
 def names_of(given, contest, ids):
-    """The names of candidates by their ids, of a file with a record each, and what the contest is called; of several contests those of the one that is meant.
-
-    `ids` are those of the ballot file's candidates.
+    """The names of candidates by their ids, and the name of the contest, from a file with a record each. A file with several contests gives those of the
+    one that is meant. `ids` are those of the ballot file's candidates.
     """
     if given.names is None:
         return {}, contest
@@ -159,7 +158,7 @@ def names_of(given, contest, ids):
 
 
 def candidates_of(given):
-    """The contest as it is called, where it is told, and the ids of its candidates with what they are called."""
+    """The name of the contest, if the file says it, and the ids of its candidates with their names."""
     contest = given.contest if given.ballots is None else contest_of(given)
     ids = None if given.ballots is None else records.contests_of(read(NAME, given.ballots))[contest]
     names, known_as = names_of(given, contest, ids or ())
@@ -173,7 +172,7 @@ def candidates_of(given):
 
 
 def contest_of(given):
-    """The id of the contest that is meant. The program judges the file; a tie is no fault of it."""
+    """The id of the contest that is meant. The program judges the file; a tie isn't a fault of the file."""
     options = [] if given.contest is None else [f"--contest={given.contest}"]
     try:
         ask(NAME, "tabulate", [given.ballots], *options)
@@ -241,12 +240,12 @@ def entry(given, cards):
         "contest": contest, "candidates": candidates, "cards": [card._asdict() for card in cards], "ranks": ranks, "has_marks": given.marks,
         "part": re.sub("[^A-Za-z0-9.-]", "_", given.batch or "") or f"after_{before(given)}" * bool(before(given)),
     }
-    key = hashlib.sha256(json.dumps([data, given.seed, before(given)], sort_keys=True).encode()).hexdigest()  # each round is kept apart
+    key = hashlib.sha256(json.dumps([data, given.seed, before(given)], sort_keys=True).encode()).hexdigest()  # each round is kept separate
     return filled("entry.html.j2", data={**data, "key": key}, called=contest, contest=contest, count=len(cards))
 
 
 def account(given, cards, again):
-    """What is told beside the answer."""
+    """The notes on standard error that go with the answer."""
     notes = [] if given.all or os.environ.get("RAIRE_QUIET") else [term_notes.seed_note(given.seed), term_notes.short_note(given.seed)]
     about_seed = "".join(f"{NAME}: {note}\n" for note in notes if note)
     if not before(given):

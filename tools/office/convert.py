@@ -1,4 +1,4 @@
-"""A vendor's export of cast vote records, as a .raire file: the words, and what is written where."""
+"""Converts a vendor's export of cast vote records to a .raire file: the words of the call, and what is written where."""
 import contextlib
 import os
 import shlex
@@ -24,7 +24,8 @@ from limits import MOST_LISTED
 from plain_audit import number_in
 from words import ended, see_output, Words
 
-# Of each form what reads it, the options that it has beside those of all forms, and the rules of OF_SOME that have a meaning for it.
+# For each form: the class that reads it, then the options that it has in addition to those of all forms. They include the rules of OF_SOME that have a
+# meaning for the form.
 FORMATS = {
     "dominion": (convert_dominion.Export, ["marks", "counts", "as"]),
     "dominion-csv": (convert_dominion_csv.Export, ["counts", "as"]),
@@ -42,7 +43,7 @@ SOME = ["marks", "counts", "id", "sheet", "candidates", "title", "batch", "ballo
 VALUES = ["id", "sheet", "candidates", "title", "batch", "ballots", "account", "names"]
 AS = (RANKED, PLURALITY, PAIRS)
 MOST_CARDS = 10_000_000
-ACCOUNT = f"./raire {NAME} "  # with which each account begins
+ACCOUNT = f"./raire {NAME} "  # each account begins with this
 
 
 def words_of(words):
@@ -73,7 +74,7 @@ def words_of(words):
 
 
 def see_rules(parser, given):
-    """Rules of ranks are for contests whose candidates are ranked, and the seats for those of several."""
+    """Refuses rules that don't fit: rules about ranks are for contests whose candidates are ranked, and --seats is for contests of several seats."""
     for name in (*OF_RANKS, "ranks"):
         if given.made != RANKED and getattr(given, name) is not None:
             parser.error(f"--{name} doesn't apply with --as {given.made}")
@@ -88,13 +89,13 @@ def see_rules(parser, given):
 
 
 def rules_of(given):
-    """The rules that have a meaning for this call."""
+    """The rules that have a meaning in this call."""
     some = [name for name in FORMATS[given.format][1] if name != "counts" or "marks" not in FORMATS[given.format][1] or given.marks == "counted"]
     return [rule for rule in RULES if (rule not in OF_SOME or rule in some) and (given.made == RANKED or rule not in OF_RANKS)]
 
 
 def converted(given):
-    """The export, the book of all records, and the account of how they were read. It may be Refused."""
+    """The export, the book of all records, and the account of how they were read. May raise Refused."""
     reader, path = FORMATS[given.format][0], " ".join(given.files)
     convert_files.see_there(given.files)
     export = reader(given.files, given)
@@ -110,13 +111,13 @@ def converted(given):
 
 
 def see_all_read(given, book, path):
-    """Where the office says how many cards there are, so many have to be read."""
+    """If the office says how many cards there are, that many must have been read."""
     if given.cards not in (None, book.cards):
         raise refused(path, f"{book.cards} cards were read, and --cards says {given.cards}: see whether a file is missing, or given twice")
 
 
 def call_of(given):
-    """The words that say what is read and how; the rules are told beside them."""
+    """The words that say what is read and how. The account lists the rules separately."""
     words = [f"--{name}={value}" for name in ("contest", "word", "without") for value in getattr(given, name)]
     names = ("as", "seats", "sheet", "candidates", "title", "batch", "ballots", "ranks", "cards")
     words += [f"--{name}={getattr(given, name)}" for name in names if getattr(given, name) is not None]
@@ -125,7 +126,7 @@ def call_of(given):
 
 
 def see_beside(given):
-    """The account and the names go to files of their own."""
+    """Checks that the account and the names go to files of their own."""
     written = [path for path in (given.account, given.names) if path is not None]
     read = [path for path in [*given.files, given.candidates, given.ballots] if path is not None and os.path.exists(path)]
     if len({os.path.realpath(path) for path in written}) < len(written):
@@ -138,7 +139,7 @@ def see_beside(given):
 
 
 def see_kept(path, text, begins):
-    """Nothing that somebody has written is lost: a file that is there is one that this tool makes anew, or has the same text."""
+    """Refuses to write over what somebody has written: an existing file must be one that this tool makes anew, or have the same text."""
     if path is None or not os.path.exists(path):
         return
     with open(path, "rb") as file:
@@ -150,7 +151,7 @@ def see_kept(path, text, begins):
 
 @contextlib.contextmanager
 def beside(path, text, begins=""):
-    """A file that gets its name once all is written, so that a call that fails leaves none."""
+    """Writes a file that gets its name only when all of it is written, so that a call that fails leaves none."""
     if path is None:
         yield
         return
@@ -175,7 +176,7 @@ def put(file):
         sys.stdout.flush()
     except (AttributeError, OSError):
         if sys.stdout is not None:
-            os.dup2(os.open(os.devnull, os.O_WRONLY), sys.stdout.fileno())  # what is left goes nowhere when Python ends
+            os.dup2(os.open(os.devnull, os.O_WRONLY), sys.stdout.fileno())  # the rest goes nowhere when Python ends
         raise Refusal(8, f"{NAME}: the output could not be written\n") from None
 
 
@@ -192,7 +193,7 @@ def answer(words):
 
 
 def text_of(given, export, book):
-    """The ballot file; of marks the seen file."""
+    """The ballot file, or the seen file if the export has the form `marks`."""
     path = " ".join(given.files)
     if given.format != "marks":
         return book.ballots(path)

@@ -1,10 +1,10 @@
-"""The account of a conversion: what was read and written, and what was done with each kind of mark."""
+"""The account of a conversion: what was read, what was written, and what was done with each kind of mark."""
 from convert_book import MOST_FILES
 from convert_export import PLURALITY, RANKED
 from convert_rules import CARDS_COUNTED, RULES
 from limits import FEWEST_CANDIDATES, MOST_CANDIDATES
 
-# What is counted of each contest, and the rule that says what was done with it.
+# What is counted for each contest, and the rule that says what was done with it.
 FOUND = {
     "overvoted ranks": "overvotes", "skipped ranks": "skips", "ended by skipped ranks": None, "repeated candidates": "repeats",
     "write-ins": "write_ins", "ranks after the end": None, "marks that aren't taken": "marks",
@@ -14,13 +14,13 @@ OVERVOTED = "more marks than seats, so nobody has the vote"
 
 
 def meaning(rules, rule, export=None):
-    """What the word says that was given for a rule."""
+    """The meaning of the word that was given for a rule."""
     said = CARDS_COUNTED if rule == "counts" and getattr(export, "numbers_cards", False) else RULES[rule]
     return said[getattr(rules, rule)]
 
 
 def account(call, export, book, asked, rules):
-    """The text of it. `rules` are those that have a meaning for this form."""
+    """The text of the account. `rules` are those that have a meaning for this form."""
     lines = [call, *(f"rule: --{rule.replace('_', '-')} {getattr(book.rules, rule)}: {meaning(book.rules, rule, export)}" for rule in rules)]
     lines += read_lines(book)
     contests = len(book.names_of_contests())
@@ -37,7 +37,7 @@ def account(call, export, book, asked, rules):
 
 
 def read_lines(book):
-    """The cards of each file; of many files their number and that of all cards."""
+    """The number of cards of each file; if there are many files, only the number of files and the number of all cards."""
     if book.files > MOST_FILES:
         yield f"read: {book.files} files: {book.cards} cards"
     else:
@@ -70,7 +70,7 @@ def of_ranks(book, counts):
 
 
 def of_marks(book, number, counts):
-    """Of a contest whose candidates aren't ranked: the overvotes, and who is elected by how many votes."""
+    """The lines about a contest whose candidates aren't ranked: the overvotes, and who is elected by how many votes."""
     for what in FOUND_UNRANKED:
         yield f"  {what}: {counts[what]}" + (f" ({OVERVOTED})" if counts[what] and what == "overvoted contests" else "")
     for pair in book.pairs.get(number, []):
@@ -84,7 +84,7 @@ def why_left_out(contest, made):
 
 
 def left_out(export, book, asked):
-    """The contests that aren't written, and why."""
+    """The lines about contests that aren't written, and why they aren't."""
     if not asked:
         others = [contest for contest in export.contests.values() if contest not in book.contests]
         yield from (f"left out: contest {contest}: {why_left_out(contest, book.made)}" for contest in others)

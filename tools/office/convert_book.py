@@ -1,4 +1,4 @@
-"""What is written: records, which wait on the disk until all are read, and the names of candidates."""
+"""What a conversion writes: the records, which wait on the disk until all are read, and the names of candidates."""
 import collections
 import hashlib
 import itertools
@@ -12,7 +12,7 @@ from limits import MOST_CONTESTS, MOST_FILE_BYTES, MOST_LISTED, MOST_RECORDS
 from records import text_of
 
 WRITE_INS = "Write-in"
-MOST_FILES = 20  # of which the account tells the cards one by one
+MOST_FILES = 20  # up to this many, the account lists the number of cards file by file
 FEWER = "convert fewer contests at once: --contest"
 RANKS = "--ranks says how many ranks a ballot has"
 
@@ -26,8 +26,8 @@ class Book:
         self.places = {contest.key: number for number, contest in enumerate(contests)}
         self.counts = [collections.Counter() for _ in contests]
         self.ranked = [set() for _ in contests]
-        self.votes = [collections.Counter() for _ in contests]  # of each candidate, where candidates aren't ranked
-        self.highest = [(0, None)] * len(contests)  # of contests whose candidates are found on the way
+        self.votes = [collections.Counter() for _ in contests]  # of each candidate, if candidates aren't ranked
+        self.highest = [(0, None)] * len(contests)  # for contests whose candidates are found along the way
         self.files, self.cards, self.read, self.last = 0, 0, collections.Counter(), None
         self.stood, self.records, self.unplaced = set(), 0, 0
         self.without, self.pairs = list(dict.fromkeys(without)), {}
@@ -47,7 +47,7 @@ class Book:
             self.add_vote(card, vote)
 
     def count(self, path):
-        """Counts a card. Files come one after the other, and there may be one for each card: of the first ones the cards are kept file by file."""
+        """Counts a card. The cards come file by file, and there may be a file for each card, so only the first files have counts of their own."""
         self.files += path != self.last
         self.last, self.cards = path, self.cards + 1
         if self.files <= MOST_FILES:
@@ -81,7 +81,7 @@ class Book:
         return seats
 
     def is_out(self, contest, choice):
-        """Whether a candidate withdrew; the write-ins did where one of them is named."""
+        """Whether a candidate withdrew. The write-ins count as withdrawn if one of them is named."""
         named = [each for each in contest.candidates if each.is_write_in] if choice == WRITE_IN else [contest.candidates[choice]]
         return any(each.key in self.without or each.name in self.without for each in named)
 
@@ -100,7 +100,7 @@ class Book:
                 self.highest[place] = rank, card.place
 
     def limit(self, contest):
-        """The highest rank that a mark may have: --ranks, or what the export says, and no more than there are candidates."""
+        """The highest rank that a mark may have: what --ranks says, or what the export says but at most the number of candidates."""
         if self.most_rank is not None:
             return self.most_rank
         if contest.is_open:
@@ -112,10 +112,10 @@ class Book:
         self.waiting.seek(0)
         return self.waiting.readline().decode().split("\t")[1]
 
-    # ---- once all is read
+    # ---- after all is read
 
     def close(self, asked, path):
-        """The contests that have records, each with its ids; then nothing is refused but a text that is too long."""
+        """Finds the contests that have records, each with its ids. After this, only a text that is too long is refused."""
         for contest, counts, (rank, place) in zip(self.contests, self.counts, self.highest):
             if asked and not counts["records"]:
                 raise refused(path, f"no card has the contest {contest}")
@@ -137,7 +137,7 @@ class Book:
             raise refused(path, f"{len(self.names_of_contests())} contests have records, and a .raire file has at most {MOST_CONTESTS}; {FEWER}")
 
     def see_without(self, path):
-        """Each candidate who withdrew stands in some contest."""
+        """Checks that each candidate who withdrew is in some contest."""
         found = {word for number in range(len(self.contests)) for each in self.out_of(number) for word in self.without if word in (each.key, each.name)}
         for word in self.without:
             if word not in found:
@@ -149,7 +149,7 @@ class Book:
         return [each for each in self.contests[number].candidates if each.key in self.without or each.name in self.without]
 
     def candidates_of(self, number, path):
-        """The id and the name of each candidate that is written, by its number; all write-ins are one, and the last."""
+        """The id and the name of each candidate that is written, by its number. All write-ins are one candidate, which comes last."""
         contest, ranked = self.contests[number], self.ranked[number]
         out = self.out_of(number)
         shown = [place for place, each in enumerate(contest.candidates) if self.is_shown(each, place in ranked) and each not in out]
@@ -172,13 +172,13 @@ class Book:
         return not candidate.is_write_in and (not candidate.is_disabled or is_ranked)
 
     def written(self):
-        """How many records are written."""
+        """The number of records that are written."""
         return sum(self.counts[number]["records"] * len(self.pairs.get(number, [None])) for number in self.kept)
 
     # ---- contests of several seats, by pairs
 
     def make_pairs(self, path):
-        """A contest for each winner and each loser of a contest; who won has to be told by the records."""
+        """Makes a contest for each winner and each loser of a contest. The records must decide who won."""
         for number in self.kept:
             contest, listed, votes = self.contests[number], self.listed[number], self.votes[number]
             order = sorted(listed, key=lambda place: -votes[place])
@@ -199,7 +199,7 @@ class Book:
             raise refused(path, f"{self.written()} records of pairs would be written, and a .raire file has at most {MOST_RECORDS}; {FEWER}")
 
     def pair_id(self, number, winner, loser):
-        """Such as `Board: Ash over Elm`; where that is too long for an id, the numbers of the candidates."""
+        """An id such as `Board: Ash over Elm`, or one with the candidates' numbers if that is too long for an id."""
         listed, name = self.listed[number], self.ids[number]
         wanted = f"{name}: {listed[winner][0]} over {listed[loser][0]}"
         return wanted if convert_ids.is_id(wanted) else f"{name[:40].strip()}: {winner + 1} over {loser + 1}"
@@ -211,7 +211,7 @@ class Book:
     # ---- texts
 
     def heads(self):
-        """The id of each contest that is written, and those of its candidates."""
+        """The id of each contest that is written, and the ids of its candidates."""
         for number in self.kept:
             if number in self.pairs:
                 yield from ((pair.id, [pair.winner, pair.loser]) for pair in self.pairs[number])
@@ -219,7 +219,7 @@ class Book:
                 yield self.ids[number], [each for each, _ in self.listed[number].values()]
 
     def rows(self):
-        """The contest, the card and the ids of each record that is written."""
+        """The contest, the card and the candidates' ids of each record that is written."""
         self.waiting.seek(0)
         for line in self.waiting:
             place, card, ranking = line.decode().rstrip("\n").split("\t")
@@ -230,7 +230,7 @@ class Book:
                 yield self.ids[number], card, [self.listed[number][each][0] for each in ranked if each in self.listed[number]]
 
     def chosen_of(self, number, pair, chosen):
-        """Who of a pair is chosen: nobody where both are, or neither."""
+        """The one of a pair who is chosen; nobody if both or neither are chosen."""
         both = [place for place in pair.places if place in chosen]
         return [self.listed[number][both[0]][0]] if len(both) == 1 else []
 
@@ -249,7 +249,7 @@ class Book:
         return made
 
     def seen(self, missing, has_contests):
-        """The text of a seen file: what counts of the marks of each card, and the cards that weren't found."""
+        """The text of a seen file: the marks of each card that count, and the cards that weren't found."""
         made = tempfile.TemporaryFile()
         for contest, card, ids in self.rows():
             made.write((",".join([card, *[contest] * has_contests, "ballot", *ids]) + "\n").encode())
@@ -259,7 +259,7 @@ class Book:
         return made
 
     def seen_of_pairs(self, missing, pairs):
-        """The same where each card is read for pairs of candidates: a record for each pair, with the one of both who is chosen."""
+        """The same if each card is read for pairs of candidates: a record for each pair, with the one of the two who is chosen."""
         made = tempfile.TemporaryFile()
         for _, card, ids in self.rows():
             for pair, both in pairs.items():
@@ -271,7 +271,7 @@ class Book:
         return made
 
     def names(self):
-        """What contests and candidates are called, as a comma-separated file."""
+        """The names of contests and candidates, as comma-separated text."""
         rows = [["contest", "id", "name"]]
         for number in self.kept:
             name, listed = self.contests[number].name, self.listed[number]

@@ -1,4 +1,4 @@
-"""Clear Ballot's export of cast vote records as CSV: a card a line, and a column for each choice, whose cell has the rank that it was given."""
+"""Reads Clear Ballot's export of cast vote records as CSV: a line for each card, and a column for each choice, whose cell has the rank that it was given."""
 import re
 
 import convert_columns
@@ -48,7 +48,7 @@ class Export(convert_columns.Export):
         return "_".join(row[column] for column in self.id_columns)
 
     def see_row(self, source, row, place):
-        """Rows are numbered: a file that lacks some is told."""
+        """Checks the rows' own numbers: a file that lacks some rows is refused."""
         column = self.places.get(NUMBER)
         if column is not None and self.compares:
             number, expected = convert_columns.number_in(row[column], place.at("RowNumber")), self.numbers.get(source)

@@ -1,4 +1,4 @@
-"""A CSV export with a column for each choice of each contest: what Dominion's and Clear Ballot's have in common."""
+"""A CSV export with a column for each choice of each contest: what Dominion's and Clear Ballot's forms have in common."""
 import csv
 
 import convert_files
@@ -10,7 +10,7 @@ NUMBERED = "a number from 0 up, or nothing if the card doesn't have the contest"
 
 
 def rows_of(source):
-    """The rows that aren't blank, with their places. Excel's ="7" is 7."""
+    """The rows that aren't blank, with their places. Excel's ="7" is read as 7."""
     reader = csv.reader((line + "\n" for _, line in source.lines()), strict=True)
     try:
         for row in reader:
@@ -26,9 +26,9 @@ def bare(cell):
 
 
 class Export:
-    """The first file's head tells contests and choices; further files have the same head."""
+    """The export. The first file's head lists the contests and choices, and further files have the same head."""
 
-    numbers_cards = True  # --counts is about the numbers of the cards
+    numbers_cards = True  # --counts refers to the numbers of the cards
 
     def __init__(self, paths, options):
         self.paths, self.options, self.notes = paths, options, {}
@@ -45,7 +45,7 @@ class Export:
                 raise refused(source, "has a different header from the first file")
 
     def rows(self, source, rows, number):
-        """The first rows of a file, each of which has to be there."""
+        """The first rows of a file, all of which must be there."""
         found = []
         for _ in range(number):
             place, row = next(rows, (None, None))
@@ -55,7 +55,7 @@ class Export:
         return found
 
     def add_choice(self, place, column, title, name, rank, **of_contest):
-        """A column: a choice of a contest, at a rank where the column is of one."""
+        """Adds a column: a choice of a contest, at a rank if the column is for one rank."""
         contest = self.contests.get(title)
         if contest is None:
             contest = self.contests[title] = Contest(title, title, **of_contest)

@@ -1,4 +1,4 @@
-"""Dominion's export of cast vote records as JSON (Democracy Suite 5): CvrExport*.json, ContestManifest.json, CandidateManifest.json."""
+"""Reads Dominion's export of cast vote records as JSON (Democracy Suite 5): CvrExport*.json, ContestManifest.json, CandidateManifest.json."""
 import re
 
 import convert_files
@@ -50,7 +50,7 @@ class Export:
                 raise refused(source, f"Version is {found if found else 'missing'}; expected a Version 5, such as 5.10.50.85")
 
     def see_parts(self):
-        """The parts of an export are numbered from 0 or 1 on, without a gap; one without a number is the whole."""
+        """Checks that the parts of an export are numbered from 0 or 1 without a gap. A file without a number is the whole export."""
         parts = {}
         for source in self.exports:
             number = EXPORT.fullmatch(source.name)[1]
@@ -115,7 +115,7 @@ class Export:
         return Card(place, self.id_of(session, place) if votes else None, votes)
 
     def contests_on(self, session, place):
-        """The contests of the version of a card that is current."""
+        """The contests of the current version of a card."""
         versions = [name for name in ("Original", "Modified") if type(session) is dict and session.get(name) is not None]
         if "Original" not in versions:
             raise refused(place, "has no Original")
@@ -130,7 +130,7 @@ class Export:
             self.notes[note] = self.notes.get(note, 0) + number
 
     def id_of(self, session, place):
-        """Tabulator, batch and record. A record that is withheld is taken from the name of the image."""
+        """The id of a card: tabulator, batch and record. A record number that is withheld is taken from the name of the image."""
         tabulator, batch, record = (session.get(name) for name in ("TabulatorId", "BatchId", "RecordId"))
         if record == WITHHELD:
             found = IMAGE.fullmatch(option(session, "ImageMask", str, place, ""))
@@ -163,17 +163,17 @@ class Export:
 
 
 class Told:
-    """A contest's own numbers of overvotes and undervotes, either of which may be missing.
+    """The numbers of overvotes and undervotes that the export gives for a contest. Either may be missing.
 
-    Which of several meanings a version gives them no description says: an overvoted rank may be told as one overvote, or as its marks, and all of a
-    contest's as one. So what is refused is what no meaning allows.
+    No description says which of several meanings a version gives them: an overvoted rank may be counted as one overvote or as its number of marks, and
+    all overvoted ranks of a contest may be counted as one. So only numbers that no meaning allows are refused.
     """
 
     def __init__(self, overvotes, undervotes):
         self.overvotes, self.undervotes = overvotes, undervotes
 
     def see_ranked(self, contest, marks, others, place):
-        """Adds the overvotes that are told while their marks aren't counted as votes; how many these are."""
+        """Adds the overvotes that the export reports although it doesn't count their marks as votes, and returns how many there are."""
         over = {rank: choices for rank, choices in marks.items() if len(choices) > 1}
         hidden = {}
         if self.overvotes and not over:
@@ -187,7 +187,7 @@ class Told:
         return len(hidden)
 
     def see_unranked(self, contest, marks, others, place):
-        """The same of a contest whose candidates aren't ranked."""
+        """The same for a contest whose candidates aren't ranked."""
         counted = set().union(*marks.values())
         made = counted.union(*others.values())
         is_hidden = bool(self.overvotes) and len(counted) <= contest.seats < len(made)
@@ -209,13 +209,13 @@ class Told:
             raise refused(place, f"Overvotes is {self.overvotes}, and {had}; {BY_OTHER_WORDS}")
 
     def see_undervotes(self, has_some, most, place):
-        """There are some where `has_some`, and never more than `most`."""
+        """Checks that there are some undervotes if `has_some`, and at most `most`."""
         if self.undervotes is not None and not has_some <= self.undervotes <= most:
             raise refused(place, f"Undervotes is {self.undervotes}, and by the marks it is {int(has_some)} to {most}; {BY_OTHER_WORDS}")
 
 
 def contests_of(version, place):
-    """The contests of all cards, or of the one card where a version doesn't tell cards apart (before 5.10)."""
+    """The contests of all cards, or of the only card if a version doesn't distinguish cards (before 5.10)."""
     if "Cards" not in version:
         return member(version, "Contests", list, place)
     return [contest for card in member(version, "Cards", list, place) for contest in member(card, "Contests", list, place)]

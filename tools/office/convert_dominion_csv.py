@@ -1,4 +1,5 @@
-"""Dominion's export of cast vote records as CSV: four lines at the head, then a card a line and a column for each choice, of a ranked contest for each rank."""
+"""Reads Dominion's export of cast vote records as CSV: four lines at the head, then a line for each card. It has a column for each choice; in a ranked
+contest, one for each choice at each rank."""
 import re
 
 import convert_columns
@@ -60,7 +61,7 @@ class Export(convert_columns.Export):
         add_mark(marks, rank or 1, contest.mark(number, column))
 
     def see_row(self, source, row, place):
-        """Dominion numbers the cards of an export: the least and the greatest number of a file, and how many there are."""
+        """Keeps the smallest and the largest card number of a file, and how many cards it has: Dominion numbers the cards of an export."""
         column = self.places.get(NUMBER)
         if column is not None and self.compares:
             number = convert_columns.number_in(row[column], place.at("CvrNumber"))

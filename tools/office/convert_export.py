@@ -1,24 +1,24 @@
-"""What every form of export comes to: contests, cards with marks by rank, and the place of whatever can't be read."""
+"""What every form of export is turned into: contests, cards with marks by rank, and the place of anything that can't be read."""
 import collections
 
 from alike import folded
 from ask import Refusal
 
 NAME = "convert"
-WRITE_IN = -1  # the candidate that all write-ins together are
-OVERVOTED = "overvoted"  # what stands at a rank that an export only calls overvoted
-RANKED, PLURALITY, PAIRS = "ranked", "plurality", "pairs"  # what records are made: rankings, one preference, or a contest for each winner and loser
+WRITE_IN = -1  # the candidate that stands for all write-ins together
+OVERVOTED = "overvoted"  # the mark at a rank that an export only calls overvoted
+RANKED, PLURALITY, PAIRS = "ranked", "plurality", "pairs"  # the records that are made: rankings, one preference, or a contest for each winner and loser
 
 Candidate = collections.namedtuple("Candidate", "key name is_write_in is_disabled", defaults=(False, False))
 
-# A mark is the number of a candidate, a WriteIn, or OVERVOTED. `marks` has the set of those at each rank.
+# A mark is the number of a candidate, a WriteIn, or OVERVOTED. `marks` has the set of marks at each rank.
 WriteIn = collections.namedtuple("WriteIn", "number index")
 Vote = collections.namedtuple("Vote", "contest marks uncounted", defaults=(0,))
 Card = collections.namedtuple("Card", "place id votes")
 
 
 class Place(collections.namedtuple("Place", "path kind number part", defaults=(None, None, ""))):
-    """Where something stands: a file, and in it a record."""
+    """Where something is: a file, and a record in it."""
 
     def __str__(self):
         record = f": {self.kind} {self.number}" if self.kind else ""
@@ -37,20 +37,20 @@ def told(text):
 
 
 def one_line(text):
-    """A text of a file may have line ends, as where a quote isn't closed."""
+    """A text from a file on one line. The text may have line ends, for instance if a quote isn't closed."""
     return "".join(c if c.isprintable() else " " for c in text)
 
 
 class Contest:
-    """A contest of an export. Its candidates are those that the export lists, or those that stood on its records so far."""
+    """A contest of an export. Its candidates are those that the export lists, or those that were on its records so far."""
 
     def __init__(self, key, name, candidates=(), most_rank=None, why_not=None, seats=1):
-        self.key, self.name, self.why_not = key, name, why_not  # why it isn't converted as a ranked contest where none is named
-        self.most_rank = most_rank  # the highest rank that a mark may have; None where just the candidates tell it
-        self.seats = seats  # how many it elects; None where the export doesn't say
+        self.key, self.name, self.why_not = key, name, why_not  # why it isn't converted as a ranked contest if no contest is named
+        self.most_rank = most_rank  # the highest rank that a mark may have; None if only the number of candidates says it
+        self.seats = seats  # how many candidates it elects; None if the export doesn't say
         self.is_ranked = why_not is None
         self.says_kind = True  # whether the export says that it is ranked, or that it isn't
-        self.is_open = False  # candidates are found on the way
+        self.is_open = False  # candidates are found along the way
         self.keeps_order = False  # the candidates are those of a ballot file, in its order
         self.candidates, self.numbers, self.looks = [], {}, {}
         for candidate in candidates:
@@ -67,12 +67,12 @@ class Contest:
         return number
 
     def alike(self, name):
-        """The name of a candidate who looks like this one and is called otherwise, or None."""
+        """The name of a candidate that looks like this name but isn't the same, or None."""
         found = self.looks.get(folded(name), name)
         return None if found == name else found
 
     def mark(self, number, index=None):
-        """The mark for a candidate, or for the write-in that stands in this field."""
+        """The mark for a candidate, or for the write-in in this field."""
         return WriteIn(number, index) if self.candidates[number].is_write_in else number
 
 
@@ -81,7 +81,7 @@ def add_mark(marks, rank, mark):
 
 
 def member(value, name, kind, place):
-    """The member of an object of JSON, which has to be there and of this kind."""
+    """The member of a JSON object. It must be there and be of this kind."""
     found = value.get(name) if type(value) is dict else None
     if type(found) is not kind:
         had = "has no" if found is None else "has the wrong type for"
@@ -98,7 +98,7 @@ KINDS = {str: "a text", int: "a whole number", bool: "true or false", list: "a l
 
 
 def chosen(contests, asked, made, path):
-    """The contests that are converted: those asked for by name or id, or all of the kind that is made."""
+    """The contests that are converted: those given by name or id, or all contests of the kind that is made."""
     if asked:
         taken = list(dict.fromkeys(named(contests, word, path) for word in asked))
         for contest in taken:
@@ -116,7 +116,7 @@ def is_unranked(contest, made):
 
 
 def see_kind(contest, made, path):
-    """A contest that is named is of the kind that is made of it."""
+    """Checks that a contest that is named is of the kind that is made."""
     if made == RANKED and contest.seats not in (1, None):
         raise refused(path, f"contest {contest} elects {contest.seats}, so it isn't an instant-runoff contest; --as pairs audits it by pairs of candidates")
     if made == RANKED and contest.most_rank == 0:

@@ -1,4 +1,4 @@
-"""Exports as they lie on the disk: files, folders, zips; opened as often as they are read, a piece at a time."""
+"""Exports as they are on the disk: files, folders and zips. A file is opened each time it is read, and is read a piece at a time."""
 import codecs
 import contextlib
 import errno
@@ -17,7 +17,7 @@ MOST_LISTED_BYTES = 67_108_864  # of a file that is read whole, such as a list o
 
 @contextlib.contextmanager
 def faults(place):
-    """What a library says of a file is told with the file's name."""
+    """Turns what a library says about a file into a refusal with the file's name."""
     try:
         yield
     except FileNotFoundError:
@@ -35,7 +35,7 @@ def first_line(fault):
 
 
 class Source:
-    """A file, or a file in a zip. Some exports have one for each card, so it holds little."""
+    """A file, or a file in a zip. Some exports have a file for each card, so an instance holds little."""
 
     __slots__ = ("archive", "inner", "outer")
 
@@ -54,12 +54,12 @@ class Source:
         return self.path
 
     def is_named(self, path):
-        """Whether it is the file of this path itself, and none in a folder or a zip."""
+        """Whether it is the file at this path itself, not one in a folder or a zip."""
         return self.archive is None and self.outer == path
 
     @contextlib.contextmanager
     def opened(self):
-        """The bytes behind a byte order mark, as a stream."""
+        """The bytes after a byte order mark, as a stream."""
         with faults(self.path), (self.archive.open(self.inner) if self.archive else open(self.outer, "rb")) as raw:
             stream = io.BufferedReader(share.counted(raw, self.size(), self.path), 1 << 16)
             if stream.peek(3).startswith(codecs.BOM_UTF8):
@@ -67,7 +67,7 @@ class Source:
             yield stream
 
     def size(self):
-        """How many bytes it has, as far as the disk or the zip says so."""
+        """The number of bytes that it has according to the disk or the zip."""
         return self.archive.getinfo(self.inner).file_size if self.archive else os.stat(self.outer).st_size
 
     def read(self):
@@ -78,7 +78,7 @@ class Source:
         return data
 
     def lines(self):
-        """The lines of a text, numbered."""
+        """The lines of a text file, numbered."""
         with self.opened() as stream:
             for number, line in enumerate(stream, 1):
                 try:
@@ -89,24 +89,24 @@ class Source:
 
 @functools.lru_cache(maxsize=1)
 def archive_of(path):
-    """A zip. Its list of files may be long, so it is kept for the next time that the zip is read."""
+    """A zip. Its list of files may be long, so the zip is kept for the next time that it is read."""
     return zipfile.ZipFile(path)
 
 
 def see_there(paths):
-    """Each path that is named is there, so that none is passed over."""
+    """Checks that each path that is named exists, so that none is passed over."""
     for path in paths:
         with faults(path):
             os.stat(path)
 
 
 def sources_of(paths, takes=None, wanted="file"):
-    """The files that are named, those of a folder, those of a zip; by name in each."""
+    """The files that are named, and the files of each folder and zip that is named, sorted by name in each."""
     return list(walked(paths, takes, wanted))
 
 
 def walked(paths, takes=None, wanted="file", is_deep=False):
-    """The same, one after the other. A folder or a zip that is named has to have a file whose name the form `takes`."""
+    """Yields the same files in order. A folder or a zip that is named must have a file whose name the form `takes`."""
     for path in paths:
         found = 0
         for source in inside(path, is_deep):
@@ -118,7 +118,7 @@ def walked(paths, takes=None, wanted="file", is_deep=False):
 
 
 def inside(path, is_deep):
-    """All files of a path: of folders with a file for each card only one folder's names are held. `is_deep` takes folders in folders too."""
+    """All files of a path. If folders have a file for each card, only the names in one folder are held. `is_deep` takes folders in folders too."""
     if os.path.isdir(path):
         with faults(path):
             names = sorted(os.listdir(path))
@@ -137,8 +137,8 @@ def inside(path, is_deep):
 
 
 def items(source, prefix):
-    """The values at a place of a JSON text, one after the other, in as much memory as one of them needs."""
-    import ijson  # which only JSON needs
+    """Yields the values at a place of a JSON text in order, in as much memory as one of them needs."""
+    import ijson  # only JSON needs it
 
     number = 0
     with source.opened() as stream:

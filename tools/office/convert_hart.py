@@ -1,4 +1,4 @@
-"""Hart Verity's export of cast vote records as XML: a file for each card, in folders or zips."""
+"""Reads Hart Verity's export of cast vote records as XML: a file for each card, in folders or zips."""
 import re
 
 import convert_files
@@ -13,7 +13,7 @@ ID_MEMBERS = ("BatchNumber", "BatchSequence")
 
 
 class Export:
-    """The contests are those that stand on some card, with the candidates that stand there: the export has no list of them."""
+    """The export. Its contests and candidates are those that are on some card, since the export has no list of them."""
 
     made_of = "BatchNumber_BatchSequence"
 
@@ -28,7 +28,7 @@ class Export:
             contest.why_not = None if contest.is_ranked else "isn't ranked (each Value is one digit)"
 
     def sources(self):
-        """The files of all cards, anew each time, so that no list of them is held."""
+        """The files of all cards, found anew each time, so that no list of them is held."""
         return convert_files.walked(self.paths, lambda name: name.lower().endswith(".xml"), WANTED, is_deep=True)
 
     def root(self, source):
@@ -64,7 +64,7 @@ class Export:
             raise refused(here, f"the candidate {key} is called {name}, and {known} on an earlier card")
 
     def key_of(self, option, here):
-        """The id of an option; all write-ins are one candidate."""
+        """The id of an option. All write-ins are one candidate."""
         return WRITE_IN if convert_xml.child(option, "WriteInData") is not None else self.wanted(option, "Id", here)
 
     @staticmethod
@@ -95,7 +95,7 @@ class Export:
         return Card(place, "_".join(self.wanted(root, name, place) for name in ID_MEMBERS) if votes else None, votes)
 
     def vote(self, element, contest, place):
-        """Each digit of a Value is a rank, from the left; a 1 is a mark there."""
+        """The vote in a contest. The digits of a Value are ranks, from the left, and a 1 is a mark at that rank."""
         marks, options = {}, convert_xml.child(element, "Options")
         for index, option in enumerate(convert_xml.children(() if options is None else options, "Option")):
             for rank, digit in enumerate(convert_xml.text_of(option, "Value"), 1):

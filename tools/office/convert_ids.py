@@ -1,4 +1,4 @@
-"""Ids that a .raire file can have. What an export calls a candidate or a contest stays where it can be one; else an id is made of it."""
+"""Ids that a .raire file can have. An export's own name for a candidate or a contest is kept if it can be an id. Otherwise an id is made from it."""
 import re
 import unicodedata
 
@@ -22,7 +22,7 @@ def ids_of(names, kind):
 
 
 def near(name):
-    """The name without the marks on its letters, and without what no id has."""
+    """The name without the marks on its letters, and without characters that no id has."""
     folded = unicodedata.normalize("NFKD", name)
     kept = "".join(c for c in folded if (" " <= c <= "~" or c.isspace()) and c not in ',"')
     return " ".join(kept.split())[:MOST_NAME_BYTES].strip()
@@ -37,12 +37,12 @@ def free(wanted, taken):
 
 
 def see_card(card):
-    """A card keeps the id that it has, since that says where it lies."""
+    """Checks that a .raire file can have a card's id. A card keeps its own id, since the id says where the card is."""
     if not is_id(card.id):
         raise refused(card.place, f"no .raire file can have the card's id {card.id!r}: {WHAT}")
 
 
 def is_in_a_batch(card):
-    """A manifest can have a card of this id: a batch, an underscore, and a number."""
+    """Whether a manifest can have a card with this id: a batch, an underscore, and a number."""
     found = CARD.fullmatch(card)
     return bool(found) and len(found[1]) <= MOST_BATCH_BYTES and is_id(found[1]) and int(found[2]) <= MOST_BATCH_CARDS

@@ -1,4 +1,4 @@
-"""The common data format for cast vote records, NIST SP 1500-103, version 1.0.0, as JSON or XML."""
+"""Reads the common data format for cast vote records, NIST SP 1500-103, version 1.0.0, as JSON or XML."""
 import convert_files
 import convert_nist_xml
 from convert_export import add_mark, Candidate, Card, Contest, member, option, Place, RANKED, refused, Vote
@@ -32,7 +32,7 @@ class Export:
                 raise refused(source, f"{name} is {'missing' if found is None else found}; expected {wanted} (NIST SP 1500-103)")
 
     def read_elections(self, source, elections):
-        """Contests of several reports are the same where they have one @id; then the first one's lists hold."""
+        """Reads the contests of a report. Contests of several reports with the same @id are the same contest, and the lists of the first report apply."""
         if type(elections) is not list or not elections:
             raise refused(source, "has no list Election")
         for number, election in enumerate(elections, 1):
@@ -128,7 +128,7 @@ class Export:
 
 
 def why_not(contest):
-    """Why a contest isn't converted where none is named."""
+    """Why a contest isn't converted if no contest is named."""
     if contest.get("VoteVariation") != VARIATION:
         return f"isn't said to be ranked (VoteVariation is {contest.get('VoteVariation', 'missing')}; expected {VARIATION})"
     return f"elects {contest['NumberElected']} (NumberElected)" if contest.get("NumberElected") not in (None, 1) else None

@@ -1,4 +1,4 @@
-"""Reports of NIST SP 1500-103 as XML, in the form that they have as JSON."""
+"""Reads reports of NIST SP 1500-103 as XML, and gives them the form that they have as JSON."""
 import re
 
 import convert_xml
@@ -7,7 +7,7 @@ from convert_export import refused
 LISTS = ("CVRSnapshot", "CVRContest", "CVRContestSelection", "SelectionPosition", "Contest", "Candidate", "ContestSelection")
 NUMBERS = ("Rank", "Position", "NumberElected", "NumberVotes")
 REFERENCES = ("CandidateIds",)  # several in one text, with blanks between
-MAY_BE_EMPTY = {"Contest": "ContestSelection", "CVRContestSelection": "SelectionPosition"}  # lists that JSON has to have
+MAY_BE_EMPTY = {"Contest": "ContestSelection", "CVRContestSelection": "SelectionPosition"}  # lists that JSON must have
 TRUTHS = {"true": True, "1": True, "false": False, "0": False}
 TYPE = "{http://www.w3.org/2001/XMLSchema-instance}type"
 
@@ -18,7 +18,7 @@ def is_xml(source):
 
 
 def value_of(element):
-    """An element as an object of JSON: its id, its type and its children; one without any is its text."""
+    """An element as a JSON object with its id, its type and its children. An element with none of these is its text."""
     name, text = convert_xml.local(element), (element.text or "").strip()
     if len(element) or element.get("ObjectId") is not None:
         found = {"@id": element.get("ObjectId"), "@type": element.get(TYPE)}
@@ -44,7 +44,7 @@ def add(found, name, value):
 
 
 class Report:
-    """What stands at the head of a report, wherever that is in the file."""
+    """The head of a report, wherever its parts are in the file."""
 
     def __init__(self, source):
         self.type, self.version, self.elections = None, None, []

@@ -1,4 +1,4 @@
-"""PrefLib's orders, strict or with ties, complete or not (.soc, .soi, .toc, .toi), in the form of 2022 and later (lines that begin with # and a name)."""
+"""Reads PrefLib's orders: strict or with ties, complete or not (.soc, .soi, .toc, .toi), in the form since 2022 (lines that begin with # and a name)."""
 import re
 
 import convert_files
@@ -73,7 +73,7 @@ class Export:
         return [Candidate(name, name, self.meanings.of(name) == "write-in") for _, name in sorted(self.keys.items())]
 
     def see_name(self, place, name):
-        """An alternative is a candidate or the write-ins, and no overvote or undervote."""
+        """Checks that an alternative is a candidate or the write-ins, not an overvote or an undervote."""
         meaning = self.meanings.of(name)
         if meaning in (None, "overvote", "undervote") and WORDS.get(name.lower()) != "write-in":
             raise refused(place, self.meanings.why(name))

@@ -1,9 +1,9 @@
-"""What is made of the marks of a ballot, by the rules in which jurisdictions differ."""
+"""Turns the marks of a ballot into a ranking or a choice, by the rules in which jurisdictions differ."""
 import collections
 
 from convert_export import OVERVOTED, WRITE_IN, WriteIn
 
-# Each rule with its words, the first of which is the default, and what they say in the account.
+# Each rule with its words and what they mean in the account. The first word is the default.
 RULES = {
     "overvotes": {"end": "a rank with several candidates ends the ballot", "pass": "a rank with several candidates is passed over"},
     "skips": {
@@ -21,19 +21,19 @@ RULES = {
         "ignore": "the export's own numbers of overvotes and undervotes aren't looked at",
     },
 }
-CARDS_COUNTED = {  # what the words of counts say of a form that numbers its cards
+CARDS_COUNTED = {  # what the words of --counts mean for a form that numbers its cards
     "compare": "the export's own numbers of the cards have to be without a gap",
     "ignore": "the export's own numbers of the cards aren't looked at",
 }
-OF_SOME = ("marks", "counts")  # rules that have a meaning for some forms alone
-OF_RANKS = ("overvotes", "skips", "repeats")  # rules that have a meaning where candidates are ranked
+OF_SOME = ("marks", "counts")  # rules that only have a meaning for some forms
+OF_RANKS = ("overvotes", "skips", "repeats")  # rules that only have a meaning if candidates are ranked
 
 Rules = collections.namedtuple("Rules", RULES)
 MOST_SKIPPED = {"pass": float("inf"), "one": 0, "two": 1}
 
 
 def choice_of(marks, seats, rules, counts):
-    """Those who are marked where candidates aren't ranked: nobody where they are more than the seats."""
+    """The candidates who are marked, if candidates aren't ranked; nobody if there are more of them than seats."""
     chosen = {choice for choices in marks.values() for choice in choices}
     if OVERVOTED in chosen or len(chosen) > seats:
         counts["overvoted contests"] += 1
@@ -45,7 +45,7 @@ def choice_of(marks, seats, rules, counts):
 
 
 def ranking_of(marks, rules, counts):
-    """The candidates that a ballot ranks; what is come upon until the ballot ends is counted."""
+    """The candidates that a ballot ranks. What comes up before the ballot ends is counted."""
     ranking, last = [], 0
     for rank in sorted(marks):
         skipped, last = rank - last - 1, rank
@@ -62,7 +62,7 @@ def ranking_of(marks, rules, counts):
 
 
 def takes(ranking, choices, rules, counts):
-    """Adds the choice of one rank, if it is one to be added. False where the ballot ends at this rank."""
+    """Adds the choice at one rank if it counts. Returns False if the ballot ends at this rank."""
     if len(choices) > 1 or OVERVOTED in choices:
         counts["overvoted ranks"] += 1
         return rules.overvotes == "pass"

@@ -1,4 +1,4 @@
-"""What was read of cards by hand: seen files, and files of marks as they stand on paper. `seen` makes the ballot file of a full count of them,
+"""Reads what people read from cards: seen files, and files of the marks as they are on paper. `seen` makes the ballot file of a full count of them,
 `marks` a seen file."""
 import csv
 
@@ -14,7 +14,7 @@ WHOLE = "the contest of all pairs"
 
 
 class Export:
-    """The contests and their candidates are those of a ballot file. A card may be read in several files, in a contest of its own in each."""
+    """The readings. The contests and their candidates are those of a ballot file. A card may be in several files, with a different contest in each."""
 
     made_of = "those of the cards that were read"
 
@@ -29,7 +29,7 @@ class Export:
         self.stood, self.has_contests = set(), False
 
     def heads(self):
-        """The candidates of each contest of the ballot file, which the program judges; a tie is no fault of it."""
+        """The candidates of each contest of the ballot file. The program judges the file; a tie isn't a fault of the file."""
         data = convert_files.Source(self.options.ballots).read()
         try:
             found = records.contests_of(data)
@@ -88,12 +88,12 @@ class Export:
         votes.setdefault(card, (place, []))[1].append(Vote(contest, marks))
 
     def ranking_of(self, place, contest, fields):
-        """Those who are ranked in a seen file: what doesn't count is left out of it already."""
+        """The candidates who are ranked in a seen file, which already omits what doesn't count."""
         ids = list(dict.fromkeys(filter(None, fields)))
         return {rank: {self.choice(place, contest, each, rank)} for rank, each in enumerate(ids, 1)}
 
     def marks_of(self, place, contest, fields):
-        """Pairs of a rank and who is marked there."""
+        """The marks from pairs of a rank and the candidate who is marked there."""
         marks = {}
         while fields and not fields[-1]:
             fields = fields[:-1]
@@ -120,7 +120,7 @@ class Export:
 
 
 def rows_of(source):
-    """The records of a file, by the rules of a seen file; a quote that isn't closed in its line is told."""
+    """The records of a file, by the rules of a seen file. A quote that isn't closed in its line is refused."""
     try:
         for at, fields in records.rows_of(source.read()):
             if any("\n" in field or "\r" in field for field in fields):

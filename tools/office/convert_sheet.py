@@ -1,4 +1,4 @@
-"""A sheet with a record a row and a column a rank: ES&S's form, RCTab's, and the plain one (id, 1st, 2nd, ..); CSV, or a workbook (.xlsx)."""
+"""Reads a sheet with a row for each record and a column for each rank: ES&S's form, RCTab's, and the plain one (id, 1st, 2nd, ..); CSV or .xlsx."""
 import csv
 import datetime
 import difflib
@@ -24,13 +24,13 @@ WRITE_IN = Candidate("Write-in", "Write-in", True)
 WORKBOOKS = (".xlsx", ".xlsm")
 KINDS = ("overvote", "undervote", "write-in", "candidate")
 LIKE_WORDS = ("overvote", "undervote", "writein", "blank", "skipped", "novote")
-LIKENESS = 0.85  # 1 is the same; a letter more, less or another one in eight is above
+LIKENESS = 0.85  # 1 means the same; a word of eight letters with one letter added, missing or changed is above this
 
 
-# ---- what cells stand for
+# ---- what cells mean
 
 class Meanings:
-    """What the text of a cell stands for: a word, or somebody's name. --word says it of texts that are like a word, or like another name."""
+    """What the text of a cell means: a word, or somebody's name. --word says it for texts that are like a word or like another name."""
 
     def __init__(self, given):
         self.given = {}
@@ -41,7 +41,7 @@ class Meanings:
             self.given[cell] = meaning
 
     def of(self, cell):
-        """One of KINDS; None where it has to be said."""
+        """One of KINDS; None if the user must say which."""
         if cell in self.given:
             return self.given[cell] if self.given[cell] in KINDS else "candidate"
         if not cell:
@@ -49,7 +49,7 @@ class Meanings:
         return WORDS.get(cell.lower()) or (None if is_like_a_word(cell) else "candidate")
 
     def name(self, cell):
-        """The name that a candidate's cell has."""
+        """The name of the candidate in a cell."""
         given = self.given.get(cell, "candidate")
         return cell if given == "candidate" else given
 
@@ -71,7 +71,7 @@ def is_like_a_word(cell):
 # ---- rows
 
 def rows_of(source, options):
-    """The rows of a sheet that aren't blank, numbered as a reader of it sees them."""
+    """The rows of a sheet that aren't blank, numbered as a reader of the sheet sees them."""
     if source.name.lower().endswith(WORKBOOKS):
         return rows_of_workbook(source, options.sheet)
     if options.sheet is not None:
@@ -140,7 +140,7 @@ def text_of(cell, place):
 
 
 def see_unmerged(source):
-    """Cells that are merged have one value and stand for several, so that no row can be told."""
+    """Refuses a workbook with merged cells: they have one value for several cells, so the rows can't be known."""
     archive = zipfile.ZipFile(source.outer)
     for name in archive.namelist():
         if re.fullmatch(r"xl/worksheets/[^/]+\.xml", name):
@@ -163,7 +163,7 @@ def see_part(source, part, file):
 # ---- what the columns are
 
 class Export:
-    """The head of the first sheet tells the contests; further sheets have to have the same head."""
+    """The export. The head of the first sheet gives the contests, and further sheets must have the same head."""
 
     def __init__(self, paths, options):
         self.paths, self.options, self.notes = paths, options, {}
@@ -200,7 +200,7 @@ class Export:
             self.notes[f"columns that aren't read: {', '.join(unread)}"] = None
 
     def add_columns(self, place, columns):
-        """The contests, by the columns of their ranks."""
+        """Adds the contests with the columns of their ranks."""
         self.columns, self.contests = {}, {}
         for name, ranks in columns.items():
             if sorted(ranks) != list(range(1, len(ranks) + 1)):
@@ -250,7 +250,7 @@ class Export:
         return Vote(contest, marks)
 
     def choice(self, contest, cell, rank, place):
-        """The mark that a cell is, or None."""
+        """The mark in a cell, or None."""
         if cell in contest.numbers and not contest.candidates[contest.numbers[cell]].is_write_in:
             return contest.numbers[cell]
         meaning = self.meanings.of(cell)
@@ -263,7 +263,7 @@ class Export:
         return self.candidate(contest, cell, place.at(f"rank {rank}"))
 
     def candidate(self, contest, cell, place):
-        """Somebody who is named for the first time, and doesn't look like another one."""
+        """The mark for a candidate by name. A new name is refused if it looks like another one."""
         name = self.meanings.name(cell)
         known = self.known.setdefault((contest.key, folded(name)), name)
         if known != name and not self.meanings.is_told(cell):
@@ -274,7 +274,7 @@ class Export:
 
 
 class Ess(Export):
-    """ES&S's export: a column for each choice of each contest. Where all of a contest are blank, the card doesn't have it."""
+    """ES&S's export: a column for each choice of each contest. If all columns of a contest are blank, the card doesn't have the contest."""
 
     own_id, is_blank_elsewhere = ESS_ID, True
 
@@ -295,7 +295,7 @@ class Ess(Export):
             self.add_unranked(place, head)
 
     def add_unranked(self, place, head):
-        """A contest that isn't ranked is a column that is named as it is; the form doesn't tell such columns from others."""
+        """Adds the contests that aren't ranked. Each is a column with the contest's name; the form doesn't distinguish these columns from others."""
         for name in self.options.contest:
             if name not in head:
                 raise refused(place, f"no column is called {name}; --contest names the column of a contest that isn't ranked")
@@ -306,7 +306,7 @@ class Ess(Export):
 
 
 class RcTab(Export):
-    """RCTab's sheet of the records that it tabulates, and the unified form: the columns Rank 1, Rank 2, .. or rank1, rank2, .."""
+    """RCTab's sheet of the records that it tabulates, and the unified form: columns Rank 1, Rank 2, .. or rank1, rank2, .."""
 
     own_id, is_blank_elsewhere = None, False
     PARTS = ("Tabulator Id", "Batch Id", "Record Id")
@@ -324,7 +324,7 @@ class RcTab(Export):
 
 
 class Plain(Export):
-    """The plain form: an id and a column a rank, of one contest, which each card has."""
+    """The plain form: an id and a column for each rank, for one contest, which each card has."""
 
     own_id, is_blank_elsewhere = PLAIN_ID, False
 
@@ -342,5 +342,5 @@ class Plain(Export):
 
 
 def title_of(source, options):
-    """What a contest is called whose file doesn't tell: --title, or the file's name."""
+    """The name of a contest if its file doesn't say it: --title, or the file's name."""
     return options.title or os.path.splitext(source.name)[0]

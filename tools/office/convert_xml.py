@@ -1,4 +1,4 @@
-"""XML a piece at a time, in as much memory as a piece needs. Expat expands no entity of another file, and refuses a text that grows without end."""
+"""Reads XML a piece at a time, in as much memory as a piece needs. Expat expands no entity of another file, and refuses a text that grows without end."""
 import xml.etree.ElementTree as tree
 
 import convert_files
@@ -19,13 +19,13 @@ def children(element, name):
 
 
 def text_of(element, name):
-    """The text of the one child of this name, or None."""
+    """The text of the child with this name, or None."""
     found = child(element, name)
     return None if found is None or found.text is None else found.text.strip()
 
 
 def whole(source):
-    """The root of a small file, with all that it has."""
+    """The root of a small file, with everything in it."""
     try:
         return tree.fromstring(source.read())
     except tree.ParseError as fault:
@@ -37,7 +37,7 @@ def no_xml(source, fault):
 
 
 def pieces(source, names):
-    """The root, as soon as it begins, and then each of its children of these names once it has ended; what was given is dropped when the next is asked for."""
+    """Yields the root as soon as it begins, and then each child with one of these names when it has ended. Each is dropped when the next is asked for."""
     with source.opened() as stream:
         try:
             root, depth = None, 0

@@ -1,4 +1,4 @@
-"""The assertions of a contest in the JSON that SHANGRLA's notebooks, raire-java or raire-rs read."""
+"""Prints the assertions of a contest in the JSON that SHANGRLA's notebooks, raire-java or raire-rs read."""
 import json
 
 import export_solution
@@ -19,26 +19,26 @@ def words_of(words):
 
 
 def accepted(given):
-    """The assertion file, of which the program has said that it holds for the ballots."""
+    """The assertion file, after the program has said that it holds for the ballots."""
     options = [f"--{name}={value}" for name, value in (("contest", given.contest), ("nodes", given.nodes), ("sets", given.sets)) if value is not None]
     ask(NAME, "check", [given.ballots, given.assertions], *options)
     return json.loads(read(NAME, given.assertions))
 
 
 def eliminated(given, contest):
-    """The candidates in the order of their elimination, as the program tabulates them."""
+    """The candidates in the order of elimination that the program's tabulation gives."""
     lines = ask(NAME, "tabulate", [given.ballots], f"--contest={contest}").splitlines()
     return [line.removeprefix("eliminated ") for line in lines if line.startswith("eliminated ")]
 
 
 def see_kinds(file, form):
-    """No other tool has more kinds than two."""
+    """Refuses other kinds than NEB and NEN: no other tool has more than these two."""
     for kind in {assertion["kind"] for assertion in file["assertions"]} - {"NEB", "NEN"}:
         raise Refusal(1, f"{NAME}: the form {form} has no assertion of kind {kind}\n")
 
 
 def entry(assertion, candidates):
-    """NEB is what SHANGRLA calls WINNER_ONLY; a NEN tells who is out in place of who is left."""
+    """An assertion in SHANGRLA's form, where NEB is called WINNER_ONLY and a NEN lists who is out instead of who is left."""
     winner, loser = assertion["winner"], assertion["loser"]
     if assertion["kind"] == "NEB":
         told = f"Rules out that {winner} is eliminated before {loser}"

@@ -1,4 +1,4 @@
-"""Assertions as raire-java and raire-rs write them: a solution, candidates by their numbers from 0; for raire-rs also the problem, with the votes."""
+"""Writes assertions as raire-java and raire-rs do: a solution, with candidates numbered from 0; for raire-rs also the problem, with the votes."""
 import collections
 
 from ask import read
@@ -13,7 +13,7 @@ def numbers_of(file):
 
 
 def entry(assertion, numbers, records):
-    """An assertion, and its margin; difficulty is one over the diluted margin."""
+    """An assertion and its margin. The difficulty is one over the diluted margin."""
     claim = {"type": assertion["kind"], "winner": numbers[assertion["winner"]], "loser": numbers[assertion["loser"]]}
     if assertion["kind"] == "NEN":
         claim["continuing"] = sorted(numbers[each] for each in assertion["rest"])
@@ -21,7 +21,7 @@ def entry(assertion, numbers, records):
 
 
 def solution(file):
-    """What raire-java says of a contest. Its times aren't those of a search, so they are 0."""
+    """What raire-java says about a contest. The times are 0, since there was no search to measure."""
     numbers = numbers_of(file)
     least = min(assertion["margin"] for assertion in file["assertions"])
     found = {
@@ -32,7 +32,7 @@ def solution(file):
 
 
 def problem_and_solution(file, ballots, name):
-    """One object that raire-rs reads as the problem, and as its solution. Equal rankings are counted together."""
+    """One object that raire-rs reads both as the problem and as its solution. Equal rankings are counted together."""
     numbers = numbers_of(file)
     counts = collections.Counter(ranking for _, ranking in ballots_of(read(name, ballots), file["contest"]))
     votes = [{"n": count, "prefs": [numbers[each] for each in ranking]} for ranking, count in counts.items()]

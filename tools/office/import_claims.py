@@ -1,4 +1,4 @@
-"""The assertions of another tool as a file of claims: candidates by their ids, and of each NEN who is still in."""
+"""Turns the assertions of another tool into a file of claims: it names candidates by their ids, and says for each NEN who is still in."""
 import json
 
 import called
@@ -13,7 +13,7 @@ from plain import is_id
 from records import short
 from words import see_output, Words
 
-MOST_TOLD = 20  # contests of a file
+MOST_TOLD = 20  # the contests of a file that a refusal lists at most
 FORMS = {
     "raire-java": import_solution.of_java, "raire-rs": import_solution.of_rs, "shangrla": import_shangrla.of_contests, "raire": import_shangrla.of_audits,
 }
@@ -31,7 +31,7 @@ def words_of(words):
 
 
 class Ids:
-    """The id of each candidate whom a file names. Without a file of names, what they are called has to be their id."""
+    """The id of each candidate that a file names. Without a file of names, the name in the file must be the id."""
 
     def __init__(self, names, path, contest):
         self.path, self.names = path, names.of(contest) if path is not None else None
@@ -49,7 +49,7 @@ class Ids:
         return who
 
     def by_names(self, who, place):
-        """A name counts as it looks. An id counts too, unless it is somebody else's name."""
+        """The id of a candidate. Names that look alike are the same. An id counts too, unless it is somebody else's name."""
         by_name, by_id = self.by_look.get(folded(who)), who if who in self.names else None
         if None not in (by_name, by_id) and by_name != by_id:
             raise refused(place, f"{who} is the name of {by_name}, and the id of somebody else in {self.path}")
@@ -59,7 +59,7 @@ class Ids:
 
 
 class Contest:
-    """One contest of the file, by the ids of the ballot file."""
+    """One contest of the file, with the ids of the ballot file."""
 
     def __init__(self, source, contest, ids, winner):
         self.place, self.contest, self.ids = source.place, contest, ids
@@ -69,7 +69,7 @@ class Contest:
         self.assertions = [self.assertion(claim) for claim in source.claims]
 
     def listed(self, candidates):
-        """The candidates, in the order of the file of names if there is one, which is that of the ballot file."""
+        """The candidates. If there is a file of names, they are in its order, which is that of the ballot file."""
         if candidates is None and not self.ids.names:
             raise refused(self.place, "doesn't list the candidates; --names does")
         found = [self.ids.of(each, self.place) for each in candidates] if candidates is not None else list(self.ids.names)
@@ -126,7 +126,7 @@ def names_of(path):
 
 
 def looks_of(contest, names):
-    """How a contest may be called: its id, and what the file of names calls it."""
+    """The forms of a contest's possible names: its id, and its name in the file of names."""
     return {folded(contest), folded(getattr(names, "contests", {}).get(contest, contest))}
 
 
@@ -140,7 +140,7 @@ def chosen(sources, contest, names, files):
 
 
 def contest_of(source, contest, names):
-    """The id of the contest: the one that is given, or what the file calls it."""
+    """The id of the contest: the one that is given, or else the one by which the file names it."""
     if contest is not None:
         return contest
     by_look = {folded(name): key for key, name in getattr(names, "contests", {}).items()}

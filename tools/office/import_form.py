@@ -1,4 +1,4 @@
-"""What every form of another tool's assertions comes to: contests, their candidates, and what is claimed, as the file names them."""
+"""What every form of another tool's assertions is turned into: contests, their candidates, and the claims, with the names that the file uses."""
 import collections
 import json
 
@@ -8,9 +8,9 @@ from records import short
 
 NAME = "import"
 
-# A NEN has `rest`, those who are still in, or `out`, those who aren't any more. A NEB has neither.
+# A NEN has `rest`, the candidates who are still in, or `out`, those who no longer are. A NEB has neither.
 Claim = collections.namedtuple("Claim", "place kind winner loser rest out", defaults=(None, None))
-# One contest of a file. `names` are what the file calls it; None stands for candidates or a winner that it doesn't say.
+# One contest of a file. `names` are what the file calls it. The candidates or the winner are None if the file doesn't say them.
 Source = collections.namedtuple("Source", "place names candidates winner claims")
 
 
@@ -25,7 +25,7 @@ def document(path):
 
 
 def members(pairs):
-    """An object of JSON, each of whose members is there once."""
+    """A JSON object, each of whose members must be there once."""
     found = dict(pairs)
     if len(found) < len(pairs):
         name = next(name for number, (name, _) in enumerate(pairs) if name in dict(pairs[:number]))
@@ -34,7 +34,7 @@ def members(pairs):
 
 
 def texts(listed, name, place):
-    """A list that has nothing but texts, such as names."""
+    """A list that must have only texts, such as names."""
     for each in listed:
         if type(each) is not str:
             raise refused(place, f"{name} has {short(json.dumps(each))}; expected a text")
@@ -42,7 +42,7 @@ def texts(listed, name, place):
 
 
 def names_in(values):
-    """What a contest is called, of members that a file may lack."""
+    """The names of a contest, from members that a file may lack."""
     return [str(each) for each in values if type(each) in (str, int) and each != ""]
 
 

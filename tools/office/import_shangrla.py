@@ -1,4 +1,4 @@
-"""Assertions in SHANGRLA's words: who is eliminated already, in place of who is still in."""
+"""Reads assertions in SHANGRLA's terms, which list who is eliminated already instead of who is still in."""
 from convert_export import member, option, Place, refused
 from import_form import Claim, document, names_in, see_object, Source, texts
 from records import short
@@ -8,7 +8,7 @@ ASSERTIONS = "assertion_json"
 
 
 def of_audits(paths):
-    """The contests of a file with a list of audits, as RAIRE and ./raire export shangrla write it."""
+    """The contests of a file with a list of audits, such as RAIRE and ./raire export shangrla write."""
     path = only(paths)
     return [of_audit(audit, Place(path, "audit", number)) for number, audit in enumerate(member(document(path), "audits", list, path), 1)]
 
@@ -22,7 +22,7 @@ def of_audit(audit, place):
 
 
 def of_contests(paths):
-    """The contests of a SHANGRLA notebook that have assertions: one, several by their ids, or a list of assertions alone."""
+    """The contests of a SHANGRLA notebook that have assertions: one contest, several by their ids, or only a list of assertions."""
     path = only(paths)
     found = document(path)
     if type(found) is list:
@@ -50,7 +50,7 @@ def claims_of(entries, place):
 
 
 def claim_of(entry, place):
-    """What is eliminated already counts for a NEN alone: of a NEB, files have an empty text or an empty list there."""
+    """A claim. Who is eliminated already only counts for a NEN: for a NEB, files have an empty text or an empty list there."""
     kind = member(entry, "assertion_type", str, place)
     if kind not in KINDS:
         raise refused(place, f"its assertion_type is {short(kind)}; expected WINNER_ONLY or IRV_ELIMINATION")

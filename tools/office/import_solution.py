@@ -1,4 +1,4 @@
-"""Assertions as raire-java, Colorado's service and raire-rs write them: a solution, beside the problem if only that says who the candidates are."""
+"""Reads assertions as raire-java, Colorado's service and raire-rs write them: a solution, with the problem if only that lists the candidates."""
 import json
 
 from convert_export import member, option, Place, refused
@@ -18,10 +18,10 @@ def of_rs(paths):
 
 
 class Solution:
-    """A file with assertions, and at most one without: their problem."""
+    """A file with assertions, and at most one file without, which is their problem."""
 
     def __init__(self, paths, has_names):
-        self.has_names = has_names  # candidates may be named by texts, not only by numbers
+        self.has_names = has_names  # candidates may be given as texts, not only as numbers
         objects = {path: see_object(document(path), path) for path in paths}
         results = {path: result_of(each, path) for path, each in objects.items()}
         solved = [path for path, result in results.items() if result is not None]
@@ -32,11 +32,11 @@ class Solution:
         self.candidates = self.listed()
 
     def metadata(self):
-        """What each file says of its contest."""
+        """What each file says about its contest."""
         return {path: option(each, "metadata", dict, path, {}) for path, each in self.objects.items()}
 
     def listed(self):
-        """Who the candidates are, in the order of their numbers."""
+        """The candidates, in the order of their numbers."""
         found = None
         for path, metadata in self.metadata().items():
             listed = option(metadata, "candidates", list, path) or option(self.objects[path], "candidates", list, path)
@@ -51,7 +51,7 @@ class Solution:
         return found
 
     def who(self, value, place):
-        """The candidate whom a number or a text names."""
+        """The candidate that a number or a text stands for."""
         if type(value) is str and self.has_names:
             return value
         if type(value) is not int:
@@ -85,7 +85,7 @@ class Solution:
 
 
 def result_of(found, path):
-    """The object that has the assertions, in whatever it is wrapped; None if the file has none."""
+    """The object that has the assertions, whatever it is wrapped in; None if the file has none."""
     for name in WRAPPED_IN:
         found = option(found, name, dict, path, found)
         if "Err" in found:

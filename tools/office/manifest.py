@@ -1,4 +1,4 @@
-"""A manifest of the list of batches that an office or a vendor's system has: the columns that name a batch, and the one with its number of cards."""
+"""Makes a manifest from an office's or a vendor's list of batches: from the columns that name a batch, and the one with its number of cards."""
 import os
 import re
 import tempfile
@@ -13,7 +13,8 @@ from limits import MOST_BATCH_BYTES
 from words import see_output, Words
 
 NAME = "manifest"
-# Of each form the columns that a batch's id is made of, each by the names that it may have; joined by an underscore, as ./raire convert makes ids.
+# For each form, the columns that a batch's id is made of, each with the names that it may have. Their cells are joined by underscores, as in the ids that
+# ./raire convert makes.
 FORMS = {
     "dominion": [("tabulatorid", "tabulatornum", "tabulator", "tabulatornumber"), ("batchid", "batch", "batchnumber", "batchname")],
     "hart": [("batchnumber", "batch", "batchid", "batchname")],
@@ -28,7 +29,7 @@ MOST_TOLD = 20
 
 
 class Options:
-    """Those that a reader of sheets has."""
+    """The options that a reader of sheets has."""
 
     def __init__(self, sheet):
         self.sheet = sheet
@@ -50,12 +51,12 @@ def refused(place, text):
 
 
 def plain(name):
-    """The name of a column without case, blanks and marks."""
+    """The name of a column without case, blanks and punctuation."""
     return "".join(filter(str.isalnum, name.lower()))
 
 
 class Columns:
-    """Which columns of a list are read."""
+    """The columns of a list that are read."""
 
     def __init__(self, given, place, head):
         self.head, self.place = [plain(name) for name in head], place
@@ -91,7 +92,7 @@ def number_of(cell, place, what, least=0):
 
 
 def batches_in(given):
-    """The number of cards of each batch, the imprinted numbers of those that have some, and what is told beside."""
+    """The number of cards of each batch, the imprinted numbers of the batches that have some, and what is reported about the list."""
     source = convert_files.Source(given.file)
     rows = convert_sheet.rows_of(source, Options(given.sheet))
     place, head = next(rows, (source, None))
@@ -119,7 +120,7 @@ def batches_in(given):
 
 
 def size_of(columns, row, place):
-    """The number of cards of a row, and the first and the last imprinted number where it has them."""
+    """The number of cards in a row, and the first and the last imprinted number if the row has them."""
     size = number_of(row[columns.count], place, "number of cards") if columns.count is not None else None
     if columns.first is None or size == 0 or size and not row[columns.first] and not row[columns.last]:
         return size, None
@@ -135,9 +136,9 @@ def missing(first, last):
 
 
 def gaps_in(spans):
-    """What imprinted numbers tell: numbers between two batches that none has, and batches that don't begin with 1 though each should."""
+    """What the imprinted numbers show: numbers between two batches that no batch has, and batches that don't begin with 1 although each should."""
     begin = {first for first, _, _, _ in spans}
-    if len(begin) < len(spans):  # each batch has numbers of its own
+    if len(begin) < len(spans):  # each batch has its own numbers
         yield from (
             f"batch {batch} begins with the number {first}, and ids count from 1: {missing(1, first - 1)} missing"
             for first, _, batch, _ in spans if first > 1
@@ -153,7 +154,7 @@ def gaps_in(spans):
 
 
 def see_total(sizes, places):
-    """A batch that has as many cards as all others together is most likely their total."""
+    """A line about a batch that has as many cards as all others together: it is most likely their total."""
     for batch, size in sizes.items():
         if len(sizes) > 2 and 2 * size == sum(sizes.values()):
             return [f"batch {batch} has {size} cards, as many as all others together: is it a line of totals? ({places[batch]})"]
@@ -161,7 +162,7 @@ def see_total(sizes, places):
 
 
 def read_list(given):
-    """The batches of the list; what the readers of exports say of a file is said under this tool's name."""
+    """The batches of the list. What the readers of exports say about a file is printed under this tool's name."""
     try:
         return batches_in(given)
     except Refusal as refusal:

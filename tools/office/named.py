@@ -1,5 +1,5 @@
 #!/usr/bin/python3
-"""The lines of ./raire tabulate, plan, report, check, poll and contests with names for ids: ./raire COMMAND .. --names NAMES."""
+"""Prints the lines of ./raire tabulate, plan, report, check, poll and contests with names instead of ids: ./raire COMMAND .. --names NAMES."""
 import csv
 import json
 import os
@@ -38,14 +38,14 @@ def parted(words):
 
 
 def only_contest(path):
-    """The contest of a ballot file that has one. Any other file raises ValueError, or has none."""
+    """The contest of a ballot file with only one. Any other file raises ValueError, or gives None."""
     with open(path, "rb") as file:
         contests = [*records.contests_of(file.read())]
     return contests[0] if len(contests) == 1 else None
 
 
 def contest_of(words):
-    """The contest that the words are about: that of --contest, of an assertion file or a session among the files, or the only one of a ballot file."""
+    """The contest that the words are about: that of --contest, that of an assertion file or a session among the files, or the only one of a ballot file."""
     given = term_notes.value_of("contest", words)
     for path in [] if given is not None else [word for word in words[1:] if not word.startswith("-") and os.path.isfile(word)]:
         try:
@@ -59,7 +59,7 @@ def contest_of(words):
 
 
 class Lines:
-    """Puts names for ids in one line after the other; a line `contest ID` says which contest the next ones are about."""
+    """Replaces ids with names, line by line. A line `contest ID` says which contest the next lines are about."""
 
     def __init__(self, names, contest):
         self.names = names
@@ -81,7 +81,7 @@ class Lines:
             self.see(line.removeprefix("contest "))
             return f"contest {self.names.contest(line.removeprefix('contest '))}"
         if re.match("round [0-9]+: ", line):
-            parted_line = re.sub("(=[0-9]+) ", r"\1; ", line)  # names have blanks
+            parted_line = re.sub("(=[0-9]+) ", r"\1; ", line)  # names may have blanks
             return re.sub(rf" ({self.one})=(?=[0-9]+(;|$))", lambda found: f" {self.of[found[1]]}=", parted_line)
         claim = re.fullmatch(rf"((?:no: assertion )?NE[BN]|.*? NE[BN]) ({self.one}) ({self.one})(?: \{{([^}}]*)\}})?(.*)", line)
         if claim:

@@ -1,8 +1,8 @@
 #!/usr/bin/python3
-"""How many draws a poll takes that is looked at after each draw, if its cards are as the margins of the assertion file say.
+"""Plans a poll: the number of draws it takes if it is checked after each draw and its cards are as the margins of the assertion file say.
 
-./raire plan MANIFEST ASSERTIONS --poll, which ./raire runs here. The program judges both files and prints the assertions with their margins; the draws are
-counted here, outside of the proof.
+./raire runs this for ./raire plan MANIFEST ASSERTIONS --poll. The program judges both files and prints the assertions with their margins. The draws are
+counted here, outside the proof.
 """
 import functools
 import json
@@ -24,15 +24,15 @@ NAME, BEST, DEFAULT_LIMIT = "plan", "best", 50_000
 IN_ONE, CEILING = 10**6, 10**6  # the millionths in one, and the risk above which an assertion is never confirmed
 HALF, NINE_IN_TEN = 0.5, 0.9
 NEAR = 1e-9  # logarithms that differ by less are compared by whole numbers
-NO_SHARE = 1e-18  # a smaller share of the polls isn't followed
-FACTORS = (1, 1.4, 1.2, 1.7, 0.8, 0.6, 2.1)  # the single gammas that are tried, times the one that fits the smallest margin
+NO_SHARE = 1e-18  # a smaller share of the polls isn't followed any further
+FACTORS = (1, 1.4, 1.2, 1.7, 0.8, 0.6, 2.1)  # the single gammas that are tried, as multiples of the one that fits the smallest margin
 POWERS = (0.25, 0.5, 1, 2, 4, 8, 16, 32)
 
 
-# ---- the cards, and an assertion's way to its limit
+# ---- the cards, and an assertion's path to its limit
 
 def cards_for(margin, recorded):
-    """How many cards speak for an assertion and against it, if each record does. A record is left out if the margin can't be met otherwise."""
+    """The number of cards that speak for an assertion and against it, if each record does. A record is omitted if the margin can't be met otherwise."""
     return (recorded + margin) // 2, (recorded - margin) // 2
 
 
@@ -44,9 +44,9 @@ def best_gamma(cards, margin):
 class Way:
     """The share of polls in which one assertion is confirmed within a number of speaking draws, counted draw by draw.
 
-    A share of each draw speaks for the assertion, and the rest against it. Of the polls that go on, `going` has the shares by how many draws were against:
-    `least` in the first one, then one more each. Whether a poll goes on depends on the numbers of draws for and against alone, but for roundings of the
-    printed risk, which are at most a unit of 10^-18 a draw.
+    A share of each draw speaks for the assertion, and the rest against it. `going` has the shares of the polls that continue, by the number of draws
+    against: `least` in the first share, then one more in each. Whether a poll continues depends only on the numbers of draws for and against, except for
+    the rounding of the printed risk, which is at most one unit of 10^-18 per draw.
     """
 
     def __init__(self, share, limit, gamma):
@@ -81,19 +81,19 @@ class Way:
         self.confirmed.append(self.confirmed[-1] + ended)
 
     def most_within(self, draws):
-        """No smaller share of polls than is confirmed within so many draws, known without counting: by Doob's inequality for powers of the risk."""
+        """An upper bound on the share of polls confirmed within this many draws, found without counting: by Doob's inequality for powers of the risk."""
         means = ((power, self.share * math.exp(-power * self.less) + (1 - self.share) * math.exp(-power * self.more)) for power in POWERS)
         return math.exp(min(0, *(power * math.log(self.limit / IN_ONE) + draws * max(0, math.log(mean)) for power, mean in means)))
 
     def within(self, draws):
-        """The share of polls in which the assertion is confirmed within so many draws that speak."""
+        """The share of polls in which the assertion is confirmed within this many draws that speak."""
         while len(self.confirmed) <= draws and self.going:
             self.step()
         return self.confirmed[min(draws, len(self.confirmed) - 1)]
 
 
 def chances(draws, share):
-    """The numbers of draws that may speak, of so many draws, with the chance of each. What is left out has next to none."""
+    """The possible numbers of draws that speak, out of this many draws, with the chance of each. The omitted numbers have next to no chance."""
     if share == 1:
         return [(draws, 1.0)]
     far = 9 * math.sqrt(draws * share * (1 - share)) + 9
@@ -119,14 +119,15 @@ class Poll:
         return Way(those_for / (those_for + against), self.limit, gamma)
 
     def within(self, margin, gamma, draws):
-        """The share of polls that confirm an assertion within so many draws."""
+        """The share of polls that confirm an assertion within this many draws."""
         way, speaking = self.way(margin, gamma), sum(cards_for(margin, self.recorded))
         return sum(chance * way.within(k) for k, chance in chances(draws, speaking / self.cards))
 
     def draws(self, claims, share, most):
         """The fewest draws within which this share of the polls confirms all claims, whichever cards speak for which; None if more than `most` are needed.
 
-        Where one claim isn't confirmed in a share of the polls, and another one in another share, they all are but for at most the sum of these shares.
+        If one claim isn't confirmed in a share of the polls, and another claim in another share, then all claims are confirmed except in at most the sum of
+        these shares.
         """
         def enough(draws):
             return sum(times * (1 - self.within(*claim, draws)) for claim, times in claims.items()) <= 1 - share
@@ -145,12 +146,12 @@ class Poll:
         return high if claims else 0
 
     def both(self, claims, most=None):
-        """The draws after which half of the polls, and nine in ten, confirm all claims."""
+        """The numbers of draws after which half of the polls, and nine in ten, confirm all claims."""
         most = self.most if most is None else most
         return tuple(self.draws(claims, share, most) for share in (HALF, NINE_IN_TEN))
 
     def single_gamma(self, margins):
-        """Of the gammas that are tried the one with which nine in ten polls confirm all assertions soonest, and its draws."""
+        """The gamma, among those that are tried, with which nine in ten polls confirm all assertions soonest, and its draws."""
         fits, found = best_gamma(self.cards, min(margins)), None
         for gamma in dict.fromkeys(min(max(round(fits * factor), 1), GREATEST_EACH_GAMMA) for factor in FACTORS):
             claims = counted((margin, gamma) for margin in margins)
@@ -163,7 +164,7 @@ class Poll:
 
 
 def counted(claims):
-    """How often each claim is there."""
+    """The number of times each claim occurs."""
     found = {}
     for claim in claims:
         found[claim] = found.get(claim, 0) + 1
@@ -188,7 +189,7 @@ def number_of(name, text, greatest, others=""):
 
 
 def lines_of(found, at_most=""):
-    """When half of the polls, and nine in ten, confirm."""
+    """The words for when half of the polls, and nine in ten, confirm."""
     half, nine = (f"after{at_most} {draws} draws" if draws is not None else "by a full count" for draws in found)
     return f"half {half}, nine in ten {nine}"
 
@@ -212,7 +213,7 @@ def answer(given):
 
 
 def note_of(limit):
-    """What ./raire says of a limit that is given, unless it is to be quiet."""
+    """What ./raire says about a limit that is given, unless it must be quiet."""
     return f"raire: {term_notes.limit_note(int(limit))}\n" if limit is not None and not os.environ.get("RAIRE_QUIET") else ""
 
 

@@ -1,7 +1,7 @@
 """The records of ballot files, manifests and seen files, read by `csv` as docs/formats.md says.
 
-Ballot files and manifests are judged by the program (office/ask.py); what it has accepted is read here. A seen file on its
-own no command of the program judges, so its own rules are judged here.
+The program judges ballot files and manifests (office/ask.py), and what it has accepted is read here. No command of the program judges a seen file by
+itself, so the rules of a seen file are judged here.
 """
 import csv
 import io
@@ -11,13 +11,13 @@ import share
 
 MARK = b"\xef\xbb\xbf"
 MISSING = "missing"
-MARKS = "marks"  # of a file of marks: behind it stand ranks, each with who is marked there
+MARKS = "marks"  # the word of a file of marks: ranks follow it, each with the candidate who is marked there
 
 csv.field_size_limit(2**31 - 1)
 
 
 class Broken(Exception):
-    """A file breaks a rule at a record; `why` says how, for people."""
+    """A file breaks a rule at a record. `why` says how, for people."""
 
     def __init__(self, rule, at, why):
         super().__init__(f"{rule} at {at}: {why}")
@@ -25,7 +25,7 @@ class Broken(Exception):
 
 
 def rows(text):
-    """The numbered records of a text stream that was opened with newline="", blanks taken off round their fields."""
+    """The numbered records of a text stream that was opened with newline="". Blanks around their fields are removed."""
     count = 0
     for row in csv.reader(text):
         fields = [field.strip(" \t") for field in row]
@@ -35,7 +35,7 @@ def rows(text):
 
 
 def rows_of(data):
-    """The numbered records of bytes. A byte order mark at the start is taken off, and a second one behind it."""
+    """The numbered records of bytes. A byte order mark at the start is removed, and so is a second one after it."""
     data = data.removeprefix(MARK).removeprefix(MARK)
     text = io.StringIO(data.decode(errors="surrogateescape"), newline="")
     share.reading(len(data), text.tell)
@@ -43,7 +43,7 @@ def rows_of(data):
 
 
 def text_of(written):
-    """Records as a text, a line each."""
+    """Records as text, a line for each."""
     text = io.StringIO(newline="")
     csv.writer(text, lineterminator="\n").writerows(written)
     return text.getvalue()
@@ -52,7 +52,7 @@ def text_of(written):
 # ---- ballot files that the program has accepted
 
 def contests_of(data):
-    """The candidates of each contest, by the head of a ballot file."""
+    """The candidates of each contest, from the head of a ballot file."""
     numbered = rows_of(data)
     _, (count, *_) = next(numbered)
     head = itertools.islice(numbered, int(count))
@@ -60,7 +60,7 @@ def contests_of(data):
 
 
 def ballots_of(data, contest):
-    """The id of each ballot of a contest, and the candidates that it ranks, each at its first place."""
+    """The id of each ballot of a contest, and the candidates that it ranks, each at the first place where it occurs."""
     numbered = rows_of(data)
     _, (count, *_) = next(numbered)
     for _, (name, ballot, *preferences) in itertools.islice(numbered, int(count), None):
@@ -91,7 +91,7 @@ def batches_of(data):
 
 
 def batch_of(card):
-    """The batch of a card, and its number in the batch, by the card's id."""
+    """The batch of a card and its number in the batch, from the card's id."""
     batch, _, number = card.rpartition("_")
     return batch, int(number)
 
@@ -99,7 +99,7 @@ def batch_of(card):
 # ---- seen files, which are judged here
 
 def seen_of(data):
-    """What was seen of each card, in the file's order: who is ranked, the Marks of a file of marks, or MISSING."""
+    """What was seen on each card, in the file's order: the ranking, the Marks of a file of marks, or MISSING."""
     seen, places = {}, {}
     for at, fields in rows_of(data):
         see_quotes(at, fields)
@@ -131,14 +131,14 @@ def marks_of(at, card, fields):
 
 
 def see_quotes(at, fields):
-    """A quote that isn't closed takes the lines behind it into its field: no id has a line's end."""
+    """Refuses a quote that isn't closed. It takes the following lines into its field, and no id has a line end."""
     open_quote = next((field for field in fields if "\n" in field or "\r" in field), None)
     if open_quote is not None:
         raise Broken("V1", at, f'a quote isn\'t closed in its line, before {short(open_quote.splitlines()[0])}; take it out, or close it')
 
 
 def short(text, most=70):
-    """A text of a file on one line, and no longer than `most`."""
+    """A text from a file on one line, no longer than `most`."""
     text = "".join(c if c.isprintable() else " " for c in text)
     return text if len(text) <= most else text[: most - 2] + ".."
 

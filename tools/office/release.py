@@ -1,4 +1,4 @@
-"""A release: the program that was proved and built, with all that an office needs beside it, as one file."""
+"""Makes a release: one file with the program that was proved and built, and everything else that an office needs."""
 import collections
 import gzip
 import hashlib
@@ -18,7 +18,7 @@ from words import ask_for_help, help_of, put, Words
 NAME = "release"
 PROGRAM = "crates/raire/out/raire"
 PARTS = ["CHANGELOG.md", "CITATION.cff", "LICENSE", "README.md", "VERSION", "docs", "examples", "plain", "raire", "tools"]
-APART = ("tools/build/", "tools/package/", f"tools/{NAME}", f"docs/help/{NAME}.txt")  # what proves, builds and releases needs the sources
+APART = ("tools/build/", "tools/package/", f"tools/{NAME}", f"docs/help/{NAME}.txt")  # omitted: what proves, builds and releases needs the sources
 MACHINE = "x86_64"
 
 File = collections.namedtuple("File", "data mode")
@@ -87,7 +87,7 @@ class Commit:
         return bool(git("status", "--porcelain", top=self.top))
 
     def files(self):
-        """The files of a release that the commit has."""
+        """The files of a release that are in the commit."""
         archive = io.BytesIO(git("archive", "--format=tar", "HEAD", *PARTS, top=self.top))
         with tarfile.open(fileobj=archive) as tar:
             listed = [each for each in tar if each.isfile() and not each.name.startswith(APART)]
@@ -105,7 +105,7 @@ def contents(commit, program, kit):
 
 
 def made(commit, program, kit):
-    """The name and the bytes of a release, and those of its Debian package, where dpkg-deb is here."""
+    """The name and the bytes of a release, and those of its Debian package if dpkg-deb is available."""
     files, version = contents(commit, program, kit)
     package = debian.made(files, version, commit.short, int(commit.time))
     sums = "".join(f"{hashlib.sha256(files[name].data).hexdigest()}  {name}\n" for name in sorted(files))
@@ -115,7 +115,7 @@ def made(commit, program, kit):
 
 
 def packed(folder, files, time):
-    """An archive whose bytes depend on nothing but these."""
+    """An archive whose bytes depend only on these arguments."""
     out = io.BytesIO()
     with gzip.GzipFile(filename="", mode="wb", fileobj=out, compresslevel=9, mtime=0) as zipped:
         with tarfile.open(fileobj=zipped, mode="w", format=tarfile.USTAR_FORMAT) as tar:
@@ -127,7 +127,7 @@ def packed(folder, files, time):
 
 
 def proved():
-    """The program of this clone, and the kit with which it was proved and built here. Both the program and the sources have to be those of the record."""
+    """The program of this clone, and the kit with which it was proved and built here. Both the program and the sources must be those of the record."""
     script = os.path.join(TOP, "raire")
     if subprocess.run([script, "--build"], stdout=subprocess.DEVNULL).returncode:
         raise Refusal(70, f"{NAME}: there is no program to release\n")

@@ -1,4 +1,4 @@
-"""The rounds of a contest up to a tie, or on by the order that breaks ties: counted here, outside of the proof."""
+"""Prints the rounds of a contest up to a tie, or beyond it by the order that breaks ties. They are counted here, outside the proof."""
 import called
 import records
 from ask import ask, read, Refusal
@@ -15,7 +15,7 @@ def words_of(words):
 
 
 def judged(given):
-    """The text of the program's tabulation; None where the contest is tied, or where its ties are more than the budget can follow."""
+    """The text of the program's tabulation; None if the contest is tied, or has more ties than the budget can follow."""
     options = [f"--contest={given.contest}"] if given.contest is not None else []
     try:
         return ask(NAME, "tabulate", [given.ballots], *options)
@@ -26,7 +26,7 @@ def judged(given):
 
 
 def order_of(given, ids):
-    """The candidates who go first where they tie, by the order that is given."""
+    """The order that is given: if candidates tie, the first of them in it is eliminated."""
     order = [each.strip() for each in given.ties.split(",")] if given.ties is not None else []
     for each in order:
         if each not in ids:
@@ -37,11 +37,11 @@ def order_of(given, ids):
 
 
 class Tied(Exception):
-    """Candidates share the least votes, and the order doesn't say which of them goes first."""
+    """Candidates share the fewest votes, and the order doesn't say which of them is eliminated first."""
 
 
 def gone_of(votes, tied, order, lines, shown):
-    """Who is eliminated of those who have the least votes."""
+    """The candidate who is eliminated among those with the fewest votes."""
     if len(tied) == 1:
         return tied[0]
     lines.append(f"tied {shown(tied)}")
@@ -56,7 +56,7 @@ def gone_of(votes, tied, order, lines, shown):
 
 
 def counted(ids, rankings, order, shown, between):
-    """The lines of the rounds, and who wins, or who is tied where the order doesn't go on."""
+    """The lines of the rounds, and who wins, or who is tied if the order doesn't say how to continue."""
     lines, remaining = [], list(ids)
     for number in range(1, len(ids)):
         votes, exhausted = dict.fromkeys(remaining, 0), 0
@@ -79,7 +79,7 @@ def counted(ids, rankings, order, shown, between):
 
 
 def names_of(given, contest, ids):
-    """The file of names, and what the candidates of the contest are called."""
+    """The file of names, and the names of the contest's candidates."""
     try:
         found = called.Called(given.names, read(NAME, given.names)) if given.names is not None else called.Nobody()
         return found, found.of(contest, ids)
@@ -104,7 +104,7 @@ def answer(words):
     rankings = {}
     for _, ranking in records.ballots_of(data, contest):
         rankings[ranking] = rankings.get(ranking, 0) + 1
-    between = " " if given.names is None else "; "  # names have blanks
+    between = " " if given.names is None else "; "  # names may have blanks
     lines, winner, tied = counted(contests[contest], rankings, order, shown, between)
     head = [f"contest {names.contest(contest)}", f"records {sum(rankings.values())}"]
     out = "".join(f"{line}\n" for line in [*head, *lines])
@@ -114,7 +114,7 @@ def answer(words):
 
 
 def account(text, winner, order, shown):
-    """What is told beside the rounds: that they aren't proved, and what the program says of the winner."""
+    """The notes that go with the rounds: that they aren't proved, and what the program says about the winner."""
     lines = ["counted only by this tool: none of it is proved"]
     lines += [f"if candidates tie, the first of these is eliminated: {shown(order)}"] * bool(order)
     if text is None:

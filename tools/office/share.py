@@ -1,4 +1,4 @@
-"""Shows on a terminal what runs and how much of a file is read, in one line of standard error that goes away, as ./raire does of the program."""
+"""Shows on a terminal what is running and how much of a file is read, in one line on standard error that goes away, as ./raire does for the program."""
 import contextlib
 import io
 import os
@@ -6,13 +6,13 @@ import signal
 import threading
 import time
 
-FIRST, EACH = 2, 1  # seconds until the line is shown, and until it is shown anew
+FIRST, EACH = 2, 1  # seconds until the line is shown, and until it is updated
 LINE = "\r\033[?7lraire: {what}: {seconds} s{memory}{share}; Ctrl-C stops it\033[K\033[?7h"
 GONE = "\r\033[K"
 
 
 class Share:
-    """How much is read of a file of `size` bytes; `done` tells how many are."""
+    """How much of a file of `size` bytes is read. `done` returns the number of bytes read."""
 
     def __init__(self, size, done, name):
         self.size, self.done, self.name = size, done, name
@@ -20,7 +20,7 @@ class Share:
     def __str__(self):
         try:
             percent = min(100 * self.done() // self.size, 100)
-        except (ValueError, ZeroDivisionError):  # it is closed, or nobody knows how long it is
+        except (ValueError, ZeroDivisionError):  # the file is closed, or its size isn't known
             return ""
         return f", {percent} percent of {self.name} read"
 
@@ -40,33 +40,34 @@ class Counted(io.RawIOBase):
         return read
 
 
-now = None  # the Share of what is read
+now = None  # the Share of the file that is being read
 has_line = False  # whether the line is on the terminal
-terminal = threading.Lock()  # held by whoever writes to it
+terminal = threading.Lock()  # held by the thread that writes to it
 
 
 def reading(size, done, name="the file"):
-    """From here on this is what is read."""
+    """Sets the file that is being read from here on."""
     global now
     now = Share(size, done, name)
 
 
 def counted(stream, size, name):
-    """The same stream, of which the share is shown."""
+    """The same stream, with its share shown."""
     found = Counted(stream)
     reading(size, lambda: found.count, name)
     return found
 
 
 def is_wanted():
-    """As ./raire has it: a terminal that can move back in a line, no RAIRE_QUIET, and no other terminal for standard output."""
+    """Whether to show the line, by the rule of ./raire: on a terminal that can move back in a line, without RAIRE_QUIET, and with no other terminal for
+    standard output."""
     if os.environ.get("RAIRE_QUIET") or os.environ.get("TERM", "dumb") == "dumb" or not os.isatty(2):
         return False
     return not os.isatty(1) or os.path.samestat(os.fstat(1), os.fstat(2))
 
 
 def memory():
-    """How much memory this process has, in words; nothing where the system doesn't say."""
+    """The memory that this process uses, in words; nothing if the system doesn't say."""
     with contextlib.suppress(OSError), open("/proc/self/status") as file:
         for line in file:
             name, _, value = line.partition(":")
@@ -95,7 +96,7 @@ def show(words, ended):
 
 @contextlib.contextmanager
 def away():
-    """The line is gone while this lasts, so that others may write to the terminal."""
+    """Removes the line while this lasts, so that others may write to the terminal."""
     global has_line
     with terminal:
         if has_line:
@@ -106,7 +107,7 @@ def away():
 
 @contextlib.contextmanager
 def shown(words):
-    """Shows the line while this lasts. Whoever else writes to the terminal takes it away first. Ctrl-C ends the process by its signal."""
+    """Shows the line while this lasts. Anything else that writes to the terminal removes it first. Ctrl-C ends the process by its signal."""
     if not is_wanted():
         yield
         return

@@ -1,8 +1,8 @@
 #!/usr/bin/python3
-"""Says what of an audit's terms is easily taken for something else: a risk limit, which counts millionths, and the blanks of a seed.
+"""Notes the terms of an audit that are easily misread: a risk limit, which counts millionths, and the blanks of a seed.
 
-tools/office/term_notes.py [--refused] WORDS.. is what ./raire asks after an answer, if --limit or --seed is among its words, or its command is
-report; and after a refusal, of which only the blanks of a seed may be the cause.
+./raire runs tools/office/term_notes.py [--refused] WORDS.. after an answer if --limit or --seed is among its words, or if its command is report. It
+also runs it after a refusal, where only the blanks of a seed may be the cause.
 """
 import json
 import re
@@ -12,11 +12,11 @@ BLANK = "\u2423"
 LEAST_USUAL_LIMIT, MOST_USUAL_LIMIT = 1_000, 200_000  # 0.1 and 20 percent
 MOST_SESSION_BYTES = 67_108_864
 REFUSED = "--refused"
-LEAST_SEED = 12  # characters; a date with two dice has more, so this only finds seeds that nobody threw
+LEAST_SEED = 12  # characters; a date with two dice has more, so this only finds seeds for which nobody threw dice
 
 
 def percent(limit):
-    """A limit in millionths as a number of percent."""
+    """A limit in millionths as a percentage."""
     return f"{limit / 10_000:.4f}".rstrip("0").rstrip(".")
 
 
@@ -30,33 +30,33 @@ def limit_note(limit):
 
 
 def blanks_in(seed):
-    """What is easily overlooked among the blanks of a seed, in words; nothing if there is nothing."""
+    """The blanks of a seed that are easily overlooked, in words; an empty text if there are none."""
     found = ["begins with a blank"] * seed.startswith(" ") + ["has two blanks in a row"] * ("  " in seed) + ["ends with a blank"] * seed.endswith(" ")
     return " and ".join(filter(None, [", ".join(found[:-1]), *found[-1:]]))
 
 
 def with_blanks(seed):
-    """A seed for a page: each blank is seen there, and is copied as a blank."""
+    """A seed for a page that shows each blank. It is still copied as a blank."""
     import markupsafe
 
     return markupsafe.Markup('<span class="blank"> </span>').join(seed.split(" "))
 
 
 def seed_note(seed):
-    """A line about a seed whose blanks are easily overlooked, or nothing."""
+    """A line about a seed whose blanks are easily overlooked, or an empty text."""
     found = blanks_in(seed)
     return f'the seed {found}: "{seed.replace(" ", BLANK)}", where each {BLANK} is a blank' if found else ""
 
 
 def short_note(seed):
-    """A line about a seed that is too short to be made by chance, or nothing."""
+    """A line about a seed that is too short to be random, or an empty text."""
     if len(seed) >= LEAST_SEED:
         return ""
     return f"the seed has {len(seed)} character{'s'[: len(seed) != 1]}, too few to be made by chance: use at least 20 throws of a ten-sided die"
 
 
 def value_of(name, words):
-    """The value of an option, as ./raire reads words; None if it isn't among them."""
+    """The value of an option, as ./raire reads the words; None if the option isn't among them."""
     for word, following in zip(words, [*words[1:], ""]):
         if word == "--":
             return None

@@ -1,4 +1,4 @@
-"""The words of a command of the office, and its two outputs."""
+"""The words of an office command, and its two outputs."""
 import argparse
 import os
 import sys
@@ -9,7 +9,7 @@ from ask import Refusal, TOP
 
 
 class Once(argparse.Action):
-    """An option that may stand once, and has a value."""
+    """An option that has a value and may be given once."""
 
     def __call__(self, parser, namespace, value, option=None):
         if getattr(namespace, self.dest) is not None:
@@ -18,7 +18,7 @@ class Once(argparse.Action):
 
 
 class Words(argparse.ArgumentParser):
-    """Takes words as ./raire does: options anywhere, each once and in full, and behind a word -- files alone."""
+    """Takes words as ./raire does: options anywhere, each once and in full, and only files after a word --."""
 
     def __init__(self, name):
         super().__init__(prog=name, add_help=False, allow_abbrev=False)
@@ -41,7 +41,7 @@ def help_of(name):
 
 
 def see_output(name, paths):
-    """Nothing is written over a file that it is made of."""
+    """Refuses to write the output over a file that it is made from."""
     for path in paths:
         if sys.stdout is not None and os.path.exists(path) and os.path.samestat(os.stat(path), os.fstat(1)):
             raise Refusal(1, f"{name}: {path} would be written over\n")
@@ -54,12 +54,12 @@ def put(name, text):
         sys.stdout.flush()
     except (AttributeError, OSError):
         if sys.stdout is not None:
-            os.dup2(os.open(os.devnull, os.O_WRONLY), sys.stdout.fileno())  # what is left goes nowhere when Python ends
+            os.dup2(os.open(os.devnull, os.O_WRONLY), sys.stdout.fileno())  # the rest goes nowhere when Python ends
         raise Refusal(8, f"{name}: the output could not be written\n") from None
 
 
 def main(name, answer, words):
-    """The status of a command. `answer` gives its text, and what is told beside it."""
+    """Runs a command and returns its status. `answer` gives its text and the notes that go with it."""
     try:
         with share.shown([name, *words]):
             text, account = (help_of(name), "") if ask_for_help(words) else answer(words)
@@ -71,7 +71,7 @@ def main(name, answer, words):
 
 
 def ended(name, refusal):
-    """The status of a call that is refused, or that ends where it can't go on."""
+    """Prints why a call is refused or can't continue, and returns its status."""
     try:
         if refusal.out:
             put(name, refusal.out)

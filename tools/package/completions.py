@@ -1,4 +1,4 @@
-"""Completions for bash and zsh, made of the pages that ./raire help prints."""
+"""Makes completions for bash and zsh from the pages that ./raire help prints."""
 import re
 
 OWN = ("help", "version")  # words of the script that have no page

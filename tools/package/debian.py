@@ -1,4 +1,4 @@
-"""A Debian package of a release: the program, the tools, man pages, completions and the docs."""
+"""Makes a Debian package of a release: the program, the tools, man pages, completions and the docs."""
 import email.utils
 import gzip
 import hashlib
@@ -15,10 +15,10 @@ import man
 NAME, MACHINE = "raire", "amd64"
 HOME, DOC, MAN = f"usr/lib/{NAME}", f"usr/share/doc/{NAME}", "usr/share/man/man1"
 PROGRAM = "crates/raire/out/raire"
-RUNS = ("raire", "VERSION", "RELEASE", "crates/", "tools/", "plain/", "docs/")  # what is installed to be run or read by what runs
+RUNS = ("raire", "VERSION", "RELEASE", "crates/", "tools/", "plain/", "docs/")  # what is installed to be run, or to be read by what runs
 SHOWN = {"README.md": "README.md", "CHANGELOG.md": "CHANGELOG.md", "RELEASE.md": "RELEASE.md", "CITATION.cff": "CITATION.cff"}
 LINKS = {f"usr/bin/{NAME}": f"../lib/{NAME}/{NAME}", f"{DOC}/docs": f"../../../lib/{NAME}/docs"}
-PYTHON = "python3 (>= 3.11)"  # as README has it; its libraries are recommended, since each tool says which one it lacks
+PYTHON = "python3 (>= 3.11)"  # as in README; its libraries are only recommended, since each tool says which one it lacks
 MAINTAINER = "RAIRE audit suite maintainers <maintainers@users.noreply.keqsadow.example>"
 
 CONTROL = """\
@@ -68,7 +68,7 @@ OVERRIDES = """\
 
 
 def needs(program):
-    """The packages that the program and its tools stand on."""
+    """The packages that the program and its tools depend on."""
     versions = [tuple(map(int, found.split(b"."))) for found in set(re.findall(rb"GLIBC_(\d+(?:\.\d+)+)", program))]
     libc = f"libc6 (>= {'.'.join(map(str, max(versions)))})" if versions else "libc6"
     return ", ".join([libc, *["libgcc-s1"] * (b"libgcc_s.so.1" in program), PYTHON])
@@ -104,12 +104,12 @@ def contents(files, version, commit, when):
 
 
 def sums(put):
-    """The MD5 of each file, as dpkg compares them. Links have none."""
+    """The MD5 of each file, for dpkg to compare. Links have none."""
     return "".join(f"{hashlib.md5(put[name].data, usedforsecurity=False).hexdigest()}  {name}\n" for name in sorted(put))
 
 
 def lay_out(folder, put, when):
-    """Writes the files and the links, all of one time."""
+    """Writes the files and the links, all with the same time."""
     for name, file in put.items():
         path = os.path.join(folder, name)
         os.makedirs(os.path.dirname(path), exist_ok=True)
@@ -127,7 +127,7 @@ def lay_out(folder, put, when):
 
 
 def made(files, version, commit, when):
-    """The name and the bytes of the package, or None where dpkg-deb isn't here. From the same files it makes the same bytes."""
+    """The name and the bytes of the package, or None if dpkg-deb isn't available. The same files give the same bytes."""
     if not shutil.which("dpkg-deb"):
         return None
     put = contents(files, version, commit, when)

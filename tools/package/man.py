@@ -1,11 +1,11 @@
-"""Man pages, made of the pages that ./raire help prints."""
+"""Makes man pages from the pages that ./raire help prints."""
 import re
 
 SUITE = "RAIRE audit suite"
 
 
 def in_roff(text):
-    """A line whose every letter is shown as it is."""
+    """A line in which every character is shown as it is."""
     text = text.replace("\\", "\\e").replace("-", "\\-").replace("'", "\\(aq").replace("`", "\\(ga").replace("^", "\\(ha").replace("~", "\\(ti")
     return f"\\&{text}" if text.startswith((".", "\\(aq")) else text
 
@@ -15,7 +15,7 @@ def as_it_stands(text):
 
 
 def listed(pages):
-    """What each command is about, by the list of commands on the first page. Those are left out that share a line, or that point at the line above."""
+    """What each command is about, from the list of commands on the first page. Commands that share a line or refer to the line above are omitted."""
     found, name = {}, ""
     for line in pages["raire"].partition("\n\n")[2].partition("\n\n")[0].splitlines():
         words, about = re.fullmatch(r"  (\S+(?: \S+)*)? *(.*)", line).groups()
@@ -30,7 +30,7 @@ def first_sentence(text):
 
 
 def page(name, pages, version, date):
-    """The man page `raire` or `raire-NAME`, of the help page of that name. There the command is typed without a folder."""
+    """The man page `raire` or `raire-NAME`, from the help page with that name. In it, the command is typed without a folder."""
     text = pages[name].replace("./raire", "raire")
     head, _, body = text.partition("\n\n")
     title = "raire" if name == "raire" else f"raire-{name}"

@@ -1,10 +1,10 @@
-"""Why no NEN of an assertion file can be spared: as many orders that elect another candidate, of which no true NEB of the file's margin refutes any and
-no true NEN of that margin refutes two.
+"""Shows that no NEN of an assertion file can be spared: finds as many orders as the file has NENs, each of which elects another candidate. No true NEB of
+the file's margin refutes any of these orders, and no true NEN of that margin refutes two of them.
 
-A suffix grows by steps: each puts a candidate in front of the set of those who come last. A NEN refutes one step, a NEB all steps of its loser to a set
-without its winner. So orders are looked for as what flows from the set of all candidates back to nobody's: nothing over a step that such a NEB refutes,
-one over a step that such a NEN refutes, and any number over each other one. Who looks doesn't have to be believed: `are_apart` compares the orders, and
-a page says nothing if it isn't so.
+A suffix grows in steps. Each step puts a candidate in front of the set of those who come last. A NEN refutes one step. A NEB refutes all steps of its
+loser to a set without its winner. So the search for orders is a flow from the set of all candidates back to the empty set: nothing flows over a step that
+such a NEB refutes, at most one over a step that such a NEN refutes, and any number over every other step. The search doesn't have to be trusted:
+`are_apart` checks the orders, and a page says nothing if they fail.
 """
 import heapq
 
@@ -12,11 +12,11 @@ from tallies import Tallies
 
 MOST_CANDIDATES = 16  # with 65,536 sets
 MOST_ORDERS = 2_000
-MOST_LOOKED_AT = 100_000  # sets, each as often as it is come to
+MOST_LOOKED_AT = 100_000  # sets, each counted as often as it is visited
 
 
 class Steps:
-    """The last steps to a set that no NEB refutes: who is put in front, and whether a NEN refutes it."""
+    """The last steps to a set that no NEB refutes: who is put in front, and whether a NEN refutes the step."""
 
     def __init__(self, tallies, winner, least):
         self.tallies, self.winner, self.least, self.known = tallies, winner, least, {}
@@ -24,7 +24,7 @@ class Steps:
         self.needs = [sum(1 << w for w in places if w != c and tallies.neb(w, c) >= least) for c in places]
 
     def to(self, here):
-        """Those that no NEN refutes come first: they can't be used up."""
+        """The last steps to this set. Those that no NEN refutes come first, since they can't be used up."""
         if here not in self.known:
             votes = {c: self.tallies.votes(c, here) for c in range(self.tallies.n) if here >> c & 1}
             few = min(votes.values(), default=0) + self.least
@@ -34,15 +34,15 @@ class Steps:
 
 
 class TooLong(Exception):
-    """More sets were looked at than a page has time for."""
+    """The search visited more sets than a page has time for."""
 
 
 class Flow:
-    """What flows over each step, from the set of all candidates back to nobody's."""
+    """The flow over each step, from the set of all candidates back to the empty set."""
 
     def __init__(self, steps, most):
         self.steps, self.all, self.looked_at = steps, steps.tallies.all, 0
-        self.over, self.on = {}, {}  # how many over a step; whose steps from a set carry some
+        self.over, self.on = {}, {}  # the flow over each step; the candidates whose step to a set has some flow
         self.value, dead = 0, set()
         while self.value < most and (self.pour(self.all, dead) or self.turn()):
             self.value += 1
@@ -53,7 +53,7 @@ class Flow:
             raise TooLong
 
     def open(self, here):
-        """Who may still be taken off the front of a set."""
+        """The candidates who may still be taken off the front of a set."""
         return [c for c, is_refuted in self.steps.to(here).items() if not (is_refuted and self.over.get((here, c)))]
 
     def put(self, here, c):
@@ -66,7 +66,7 @@ class Flow:
             self.on[here ^ 1 << c].discard(c)
 
     def pour(self, here, dead):
-        """One more from this set to nobody's, without taking any step back. A set from which none comes there is dead for good."""
+        """Adds one to the flow from this set to the empty set without taking any step back. A set that can't get there is dead for good."""
         self.look()
         if not here:
             return True
@@ -78,7 +78,7 @@ class Flow:
         return False
 
     def turn(self):
-        """One more by a way that may take steps back; whether there is one. Small sets are gone on from first, since nobody's isn't far from them."""
+        """Adds one to the flow along a path that may take steps back, and returns whether there is one. Small sets come first, since the empty set is near."""
         came, heap = {self.all: None}, [(0, self.all)]
         while heap and 0 not in came:
             _, here = heapq.heappop(heap)
@@ -101,7 +101,7 @@ class Flow:
             here = step if is_on else step ^ 1 << c
 
     def orders(self):
-        """The flow taken apart, the first eliminated first."""
+        """The orders that the flow consists of, the first eliminated first."""
         left, found = dict(self.over), []
         for _ in range(self.value):
             here, order = self.all, []
@@ -119,7 +119,7 @@ def set_of(candidates):
 
 
 def are_apart(tallies, winner, least, orders):
-    """Whether each order elects another candidate, no true NEB of at least this margin refutes any of them, and no true NEN of it two."""
+    """Whether each order elects another candidate, no true NEB of at least this margin refutes any of them, and no true NEN of that margin refutes two."""
     refuted = set()
     for order in orders:
         if sorted(order) != list(range(tallies.n)) or order[-1] == winner:
@@ -136,13 +136,13 @@ def are_apart(tallies, winner, least, orders):
 
 
 def may_be_found(file):
-    """Whether a file has NENs, not too many for a page, and few enough candidates."""
+    """Whether a file has NENs, but not too many for a page, and few enough candidates."""
     nens = sum(claim["kind"] == "NEN" for claim in file["assertions"])
     return len(file["candidates"]) <= MOST_CANDIDATES and 1 <= nens <= MOST_ORDERS
 
 
 def found(ids, rankings, file):
-    """Of a file that the program has accepted the orders by the number of the NEN that each of them needs; None if they aren't found."""
+    """The orders for a file that the program has accepted, by the number of the NEN that each of them needs; None if they aren't found."""
     claims, tallies = claims_of(ids, file), Tallies(len(ids), rankings)
     nens = {(w, rest): number for number, (w, _, rest, _) in enumerate(claims, 1) if rest}
     winner, least = ids.index(file["winner"]), file["margin"]
@@ -156,13 +156,13 @@ def found(ids, rankings, file):
 
 
 def claims_of(ids, file):
-    """Winner, loser, who is left and margin of each assertion, by places; of a NEB nobody is left."""
+    """The winner, the loser, who is left, and the margin of each assertion, by places. For a NEB, nobody is left."""
     at = {c: place for place, c in enumerate(ids)}
     return [(at[claim["winner"]], at[claim["loser"]], set_of(at[c] for c in claim.get("rest", [])), claim["margin"]) for claim in file["assertions"]]
 
 
 def by_nen(nens, orders):
-    """Each order by the number of the NEN that refutes it; None unless each NEN refutes one of them, and each of them is refuted by one."""
+    """Each order by the number of the NEN that refutes it; None unless each NEN refutes one order and each order is refuted by one NEN."""
     numbers = [[nens[step] for place, c in enumerate(order) if (step := (c, set_of(order[place:]))) in nens] for order in orders]
     if sorted(numbers) != [[number] for number in sorted(nens.values())]:
         return None

@@ -1,4 +1,4 @@
-"""What a session, a manifest and the cards that were seen say, for a page."""
+"""What a session, a manifest and the seen cards say, for a page."""
 import bisect
 import json
 import math
@@ -9,7 +9,7 @@ from files import told
 from texts import superscript
 
 UNIT = plain_audit.UNIT
-NO_BYTES = plain_audit.digest(b"")  # what a session of a plurality contest has for the digest of an assertion file
+NO_BYTES = plain_audit.digest(b"")  # a session of a plurality contest has this instead of the digest of an assertion file
 WIDTH, HEIGHT, LEFT, RIGHT, TOP, BOTTOM = 640, 300, 60, 610, 16, 262
 
 
@@ -18,7 +18,7 @@ def risk_text(units):
 
 
 def short(units):
-    """A risk in a few digits, rounded up, since it is never to look smaller than it is."""
+    """A risk in a few digits, rounded up, since it must never look smaller than it is."""
     digits = 4 if units >= UNIT // 1000 else 6
     return f"{math.ceil(units * 10**digits / UNIT) / 10**digits:.{digits}f}"
 
@@ -36,7 +36,7 @@ def is_of_plurality(session):
 
 
 def why_no_session(data):
-    """What is wrong first with a file that isn't a session."""
+    """The first thing that is wrong with a file that isn't a session."""
     try:
         session = plain.json_value(data)
     except (ValueError, RecursionError):
@@ -55,7 +55,7 @@ def why_no_session(data):
 
 
 def state(session):
-    """Of each claim its last round's counts and risk, in which round it was confirmed first, and whether the risk is above the limit."""
+    """For each claim, the counts and the risk of the last round, the round that first confirmed it, and whether the risk is above the limit."""
     claims = []
     for j, margin in enumerate(session["margins"]):
         within = [i for i, done in enumerate(session["rounds"], 1) if done["risks"][j] <= session["limit"] * 10**12]
@@ -68,7 +68,7 @@ def state(session):
 
 
 def signed_round(session):
-    """The round with which each claim was confirmed."""
+    """The round by which all claims were confirmed."""
     return max(claim["confirmed"] for claim in state(session)) if session["signed_off"] else None
 
 
@@ -78,7 +78,7 @@ def added(file):
 
 
 def nice_steps(most):
-    """A few round numbers up to the most."""
+    """A few round numbers up to the maximum."""
     step = 10 ** max(0, len(str(most)) - 1)
     for finer in (step // 5, step // 2, step):
         if finer and most // finer <= 6:
@@ -88,7 +88,7 @@ def nice_steps(most):
 
 
 def chart(session, numbers):
-    """The lines of these claims' risks over the draws, in the places of a drawing: from 1 down to below the limit, by powers of ten."""
+    """The lines of these claims' risks over the draws, in the coordinates of a drawing: from 1 down to below the limit, by powers of ten."""
     if not session["rounds"]:
         return None
     limit, most = session["limit"] * 10**12, session["rounds"][-1]["draws"]
@@ -116,7 +116,7 @@ def chart(session, numbers):
 
 
 def sizes(manifest):
-    """The batches with their numbers of cards and the first and last number of a card."""
+    """The batches with their numbers of cards, and the numbers of their first and last cards."""
     return [
         {"id": batch, "cards": size, "first": manifest.firsts[batch] + 1, "last": manifest.firsts[batch] + size}
         for batch, size in manifest.batches.items()
@@ -124,7 +124,7 @@ def sizes(manifest):
 
 
 def count_records(batches, recorded):
-    """Adds to each batch how many of its cards have a record."""
+    """Adds to each batch the number of its cards that have a record."""
     places, had = sorted(recorded), 0
     for batch in batches:
         upto = bisect.bisect_right(places, batch["last"])
@@ -148,17 +148,17 @@ def by_votes(values):
 
 
 def is_without_contest(was, found):
-    """A card that has no record, and on which nobody is ranked: one that doesn't have the contest. It is no discrepancy for any claim."""
+    """Whether a card has no record and ranks nobody: it doesn't have the contest. It isn't a discrepancy for any claim."""
     return was is None and found == ()
 
 
 def without_contest(manifest, recorded, seen, draws_of):
-    """The drawn cards that have no record and nobody ranked."""
+    """The drawn cards that have no record and rank nobody."""
     return [manifest.card(card) for card in sorted(draws_of) if is_without_contest(recorded.get(card), seen[card])]
 
 
 def differing(session, ids, manifest, recorded, claims, seen, draws_of):
-    """The drawn cards that were seen otherwise than recorded, with the discrepancy of each claim; those without the contest are told apart."""
+    """The drawn cards that differ from their records, with the discrepancy of each claim. Cards without the contest aren't among them."""
     rows = []
     for card, draws in sorted(draws_of.items(), key=lambda item: item[1]):
         was, found = recorded.get(card), seen[card]

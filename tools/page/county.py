@@ -1,4 +1,4 @@
-"""All contests of a ballot file on one sample, from the program's texts."""
+"""All contests of a ballot file on one sample, from the program's answers."""
 import json
 
 import audit
@@ -27,7 +27,7 @@ def blocks_of(text):
 
 
 class County:
-    """What the program says of all contests, and of each by itself."""
+    """What the program says about all contests, and about each contest by itself."""
 
     def __init__(self, page):
         self.page, self.options = page, page.options
@@ -44,7 +44,7 @@ class County:
             raise told(f"{self.paths[0]} is a ballot file to the program, but this page can't read these files: {broken}") from None
 
     def read(self, blocks):
-        """The files as this page reads them, for the cards that were seen otherwise than recorded."""
+        """Reads the files by this page's own rules, for the cards that differ from their records."""
         ballots, manifest, seen = (self.page.files[kind].data for kind in KINDS)
         self.manifest = plain_audit.manifest_of(manifest)
         self.terms["cards"] = self.manifest.cards
@@ -72,7 +72,7 @@ class County:
         return {**found, **self.audited(ballots, block, words), "kind": "signed" if block[-1] == "signed off yes" else "unsigned"}
 
     def audited(self, ballots, block, words):
-        """Winner, margin and claims of a contest that is decided. The lines of the claims are read beside those of a search, since ids may have blanks."""
+        """The winner, margin and claims of a decided contest. The lines of the claims are compared with those of a search, since ids may have blanks."""
         status, text = self.page.program.must_run("search", self.paths[:1], *words, "--workers=1", *self.nodes)
         if status != 0:
             raise self.page.program.is_another("contests")
@@ -105,7 +105,7 @@ def state_of(line, limit):
 
 
 def state_in_words(county):
-    """The kind, the head and the text of what stands on top."""
+    """The kind, the head and the text of what is at the top of the page."""
     contests, draws = county.contests, county.terms["draws"]
     signed = sum(contest["kind"] == "signed" for contest in contests)
     each = f"each assertion of {'it' if signed == 1 else 'these'} has a risk of at most {millionths(county.terms['limit'])}"
@@ -127,7 +127,7 @@ def told_of(contests, kind, words):
 
 
 def see_files(page):
-    """All contests on one sample have seed and draws, and nothing that is of one contest."""
+    """Checks the files and options of all contests on one sample: they have a seed and draws, and nothing that is about one contest."""
     if "--contest" in page.options:
         raise told("--contest is for one contest, but these files and options are for all: omit it, or give a session or an assertion file")
     if "--sets" in page.options:

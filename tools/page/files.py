@@ -1,4 +1,4 @@
-"""The files that a page is made of: what each is, its bytes and its digest."""
+"""The files that a page is made from: what each is, its bytes and its digest."""
 import hashlib
 import itertools
 import json
@@ -15,11 +15,11 @@ KINDS = {
     "ballots": "ballot file", "manifest": "manifest", "assertions": "assertion file", "session": "session", "seen": "seen file",
     "counted": "full count", "names": "names",
 }
-NOT_THE_PROGRAMS = {"seen", "names"}  # what no command judges by itself
+NOT_THE_PROGRAMS = {"seen", "names"}  # no command judges these by themselves
 
 
 class Refusal(Exception):
-    """No page is made: the status, and what is told."""
+    """No page is made: the status, and what to print."""
 
     def __init__(self, status, text):
         super().__init__(text)
@@ -31,7 +31,7 @@ def told(text):
 
 
 def broken_to_page(path, broken):
-    """A rule is broken, as this page judges it: no command has."""
+    """A refusal for a broken rule that this page has judged, since no command has."""
     return Refusal(2, f"show: {path}: {broken} (judged by this page, and not by the program)\n")
 
 
@@ -45,7 +45,7 @@ class File:
 
 
 def kind_of(path, data):
-    """What a file seems to be; whether it is that, is judged later."""
+    """The kind of file that this seems to be. Whether it is that kind is judged later."""
     if data.lstrip()[:1] in (b"{", b"[") or path.endswith(".json"):
         return "session" if is_like_session(path, data) else "assertions"
     if path.endswith(".raire"):
@@ -62,11 +62,11 @@ def is_like_session(path, data):
 
 
 def kind_of_rows(rows):
-    """The kind that the first records tell. A ballot file begins with a number, and a contest follows."""
+    """The kind that the first records show. A ballot file begins with a number, and a contest follows."""
     if not rows:
         return None
     seconds = [row[1] if len(row) > 1 else "" for row in rows]
-    words = {word for row in rows for word in row[1:3]}  # the word of a seen card stands behind its id, or behind a contest's
+    words = {word for row in rows for word in row[1:3]}  # the word of a seen card follows its id or a contest's id
     if [field.lower() for field in rows[0]] in (["id", "name"], ["contest", "id", "name"]):
         return "names"
     if rows[0][0] == "batch":
@@ -86,7 +86,7 @@ def kind_of_name(path):
 
 
 def given(paths):
-    """The files by their kinds, each kind once. Of two ballot files one is a full count."""
+    """The files by their kinds, each kind once. If there are two ballot files, one is a full count."""
     files = {kind: [] for kind in KINDS}
     for path in paths:
         try:
@@ -113,7 +113,7 @@ OR_COUNTED = ", or call the one that was counted in full “counted”"
 
 
 def told_apart(two, sessions):
-    """The records and the full count: a session has the digest of the records, else the name of a full count says so."""
+    """The records and the full count: a session has the digest of the records, or else the name of the full count says what it is."""
     recorded = [digest_in(file.data) for file in sessions]
     for counted in ([file for file in two if recorded and file.digest not in recorded], [file for file in two if "counted" in file.name]):
         if len(counted) == 1:
@@ -123,7 +123,7 @@ def told_apart(two, sessions):
 
 
 def digest_in(data):
-    """The digest of the records, as a session names it."""
+    """The digest of the records in a session."""
     try:
         return json.loads(data)["ballots"].lower()
     except (ValueError, TypeError, KeyError, AttributeError, RecursionError):
@@ -131,13 +131,13 @@ def digest_in(data):
 
 
 def contests_of(data):
-    """Of each contest its candidates, by the head of a ballot file that the program has read."""
+    """The candidates of each contest, from the head of a ballot file that the program has read."""
     head = itertools.islice(plain_audit.numbered(data), MOST_CONTESTS + 1)
     return {name: ids for name, (ids, _) in plain_audit.contest_records(list(head)).items()}
 
 
 class Cards:
-    """The cards of a manifest; where none is given, whatever can be the id of a card."""
+    """The cards of a manifest, or everything that can be the id of a card if no manifest is given."""
 
     def __init__(self, manifest):
         self.manifest = manifest
@@ -152,14 +152,14 @@ class Cards:
 
 
 def seen_of(data, manifest, ids):
-    """What was seen of each card, by as much of the rules as can be judged: without candidates each id may be one."""
+    """What was seen on each card, by as many of the rules as can be judged. Without a list of candidates, each id may be one."""
     if ids is None:
         ids = {field for row in plain_audit.numbered(data) for field in row[2:] if plain.is_id(field)}
     return plain_audit.seen_of(data, Cards(manifest), sorted(ids) if isinstance(ids, set) else ids)
 
 
 class Scratch:
-    """A file of the page's own, that is gone behind a `with`."""
+    """A file for the page's own use, which is removed at the end of a `with`."""
 
     def __init__(self, name):
         self.folder = tempfile.TemporaryDirectory()

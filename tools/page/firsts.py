@@ -5,7 +5,7 @@ from texts import plural
 
 
 def count_of(contest, called):
-    """How many ballots have each candidate first; who leads, and by how much the others are behind, or who share the most."""
+    """The number of ballots that rank each candidate first; who leads and by how much the others are behind, or who shares the lead."""
     votes = dict(zip(called, plain_plurality.firsts(contest)))
     most, nobody = max(votes.values()), contest.records - sum(votes.values())
     count = {"records": contest.records, "votes": votes, "nobody": nobody, "gained": dict.fromkeys(votes, 0)}
@@ -18,7 +18,7 @@ def count_of(contest, called):
 
 
 def claims_of(contest):
-    """The claims with their margins; none where candidates share the most first preferences."""
+    """The claims with their margins; none if candidates share the most first preferences."""
     try:
         return plain_plurality.claims(contest)
     except plain.Tie:
@@ -26,6 +26,6 @@ def claims_of(contest):
 
 
 def in_words(count, loser):
-    """What a claim says, in two parts: that the winner leads, and the first preferences of both."""
+    """A claim in words, in two parts: that the winner leads, and the first preferences of both candidates."""
     w, votes = count["winner"], count["votes"]
     return f"{w} has more first preferences than {loser}", f"{w} has {plural(votes[w], 'first preference')}, {loser} {votes[loser]:,}"

@@ -1,4 +1,4 @@
-"""The names under which candidates and contests are shown: a file with the columns id and name, or contest, id and name."""
+"""The names by which candidates and contests are shown: a file with the columns id and name, or contest, id and name."""
 import re
 
 import called
@@ -6,7 +6,7 @@ from files import told
 
 
 class Names:
-    """What each candidate is called on the page. One without a name is called by the id."""
+    """The name of each candidate on the page. A candidate without a name is shown by the id."""
 
     def __init__(self, file=None):
         self.path = file and file.path
@@ -23,7 +23,7 @@ class Names:
         return self.by_id.get(c, c)
 
     def see(self, ids, contest):
-        """From here on the names are those of this contest: each is that of a candidate, and no two candidates are shown alike."""
+        """Makes the names those of this contest from here on. Each must be the name of a candidate, and no two candidates may be shown alike."""
         try:
             self.by_id = self.all.of(contest, ids)
         except called.BadNames as bad:
@@ -35,7 +35,7 @@ class Names:
                 raise told(f"{self.path} has a name for {c}, who isn't a candidate")
 
     def in_line(self, line, ids):
-        """A line of a check, with names for ids."""
+        """A line of a check, with names instead of ids."""
         one = "|".join(map(re.escape, sorted(ids, key=len, reverse=True)))
 
         def all_of(text):

@@ -1,9 +1,9 @@
 """The tree of elimination orders that elect another candidate, and what cuts each of its branches.
 
-A branch is a suffix of orders: who wins, who is eliminated last, and so on, towards the first. It is cut by the first
-assertion of the file that refutes it. What cuts it where one more candidate is put in front hangs on who that is and on the set of those
-behind, not on their order. So branches of one set go on alike, and all are counted set by set, also where they are millions. Where the
-page hasn't room for all of them, each set is drawn once.
+A branch is a suffix of orders: who wins, who is eliminated last, and so on, back toward the first. It is cut by the first assertion of the file that
+refutes it. When one more candidate is put in front of a branch, what cuts it depends on who that is and on the set of those who follow, not on their
+order. So branches with the same set continue alike, and all are counted set by set, even if there are millions. If the page doesn't have room for all of
+them, each set is drawn once.
 """
 from math import factorial
 
@@ -13,7 +13,7 @@ MOST_OPEN = 40
 
 
 class Cutting:
-    """The assertions by what they cut: a NEB by its loser, a NEN by its winner and its set. Sets are bits, by the places of the ids."""
+    """The assertions by what they cut: a NEB by its loser, a NEN by its winner and its set. A set has a bit for the place of each id."""
 
     def __init__(self, ids, claims):
         at, self.nebs, self.nens = {c: place for place, c in enumerate(ids)}, [[] for _ in ids], {}
@@ -25,7 +25,7 @@ class Cutting:
                 self.nens.setdefault((winner, sum(1 << at[c] for c in claim["rest"])), number)
 
     def of(self, front, behind):
-        """The first assertion that refutes a suffix by the candidate who stands in front of these, or None."""
+        """The first assertion that refutes a suffix because of the candidate in front of these, or None."""
         nen = self.nens.get((front, behind | 1 << front))
         for number, winner in self.nebs[front]:
             if not winner & behind:
@@ -34,7 +34,7 @@ class Cutting:
 
 
 class Counted:
-    """Of each set: how many branches have it that nothing cuts, and how many branches further on are cut or stand."""
+    """For each set: how many uncut branches have it, and how many branches further on are cut or stand."""
 
     def __init__(self, n, winner, claims, cutting):
         self.full, self.winner, self.cutting = (1 << n) - 1, winner, cutting
@@ -49,11 +49,11 @@ class Counted:
                 self.back(here)
 
     def outside(self, behind):
-        """Who may be put in front of a set, in the contest's order; the last one of an order isn't the winner."""
+        """The candidates who may be put in front of a set, in the contest's order. The last candidate of an order isn't the winner."""
         return [c for c in range(self.full.bit_length()) if not behind >> c & 1 and (behind or c != self.winner)]
 
     def forward(self, n):
-        """The sets of each size that a branch has which nothing cuts, as far as they are counted."""
+        """The sets of uncut branches, by size, as far as they are counted."""
         levels, counted = [{0: 1}], 0
         for _ in range(n):
             counted += len(levels[-1])
@@ -124,7 +124,9 @@ class Tree:
         return [Branch((*path, self.names[c]), here | 1 << c, of(c, here), self.counted) for c in self.counted.outside(here)]
 
     def show(self):
-        """Level by level, as many branches as a page has room for; those in which an order stands come first. Of a set the first one goes on."""
+        """Marks the branches to show, level by level, as many as a page has room for. Branches with an order that stands come first. Of the branches with the
+        same set, only the first continues.
+        """
         level, shown, drawn = self.branches, 0, {}
         while level:
             level = sorted(level, key=lambda branch: -branch.standing)
@@ -143,7 +145,7 @@ class Tree:
         self.is_open = shown <= MOST_OPEN
 
     def cutting(self):
-        """The assertions that cut a branch which is drawn."""
+        """The assertions that cut a branch that is drawn."""
         found, branches = set(), [*self.branches]
         for branch in branches:
             found.add(branch.by)

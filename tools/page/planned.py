@@ -1,19 +1,19 @@
-"""Clean draws: those that an assertion file says if it has a plan, and those that a plan works out for the cards of a manifest."""
+"""Clean draws: those that an assertion file gives if it has a plan, and those that a plan works out for the cards of a manifest."""
 from texts import listed, millionths, plural
 
 TERMS = ("cards", "limit", "gamma")
-DEFAULTS = {"limit": 50_000, "gamma": 100}  # of a plan without words
+DEFAULTS = {"limit": 50_000, "gamma": 100}  # of a plan without options
 
 
 def said_by(file):
-    """What an assertion file says, with the terms that it is for; None if it has no plan. In version 1 such members aren't looked at."""
+    """The draws that an assertion file gives, with the terms that they are for; None if it has no plan. In version 1, these members are ignored."""
     if file["version"] == 1 or "cards" not in file:
         return None
     return {**{name: file[name] for name in TERMS}, "draws": [claim["draws"] for claim in file["assertions"]]}
 
 
 def planned(text, terms):
-    """What the lines of a plan say, without the last one, which is of all."""
+    """The draws in the lines of a plan, without the last line, which is about all assertions."""
     told = [line.rpartition(": ")[2] for line in text.splitlines()[:-1]]
     return {**terms, "draws": [None if each == "full count" else int(each.removesuffix(" draws")) for each in told]}
 
@@ -23,7 +23,7 @@ def in_words(draws):
 
 
 def of_all(draws):
-    """So many are enough for all of them."""
+    """The number of draws that is enough for all of them, in words."""
     return in_words(None if None in draws else max(draws, default=0))
 
 
@@ -32,7 +32,7 @@ def terms_in_words(terms):
 
 
 def other_terms(said, terms, whose):
-    """Which terms of the file aren't those that are known, in a sentence; none where no other are known."""
+    """A sentence about the terms of the file that differ from the known terms; None if no term differs."""
     names = [name for name in TERMS if name in terms and said[name] != terms[name]]
     words = {"cards": lambda each: plural(each["cards"], "card"), "limit": lambda each: f"a risk limit of {millionths(each['limit'])}",
              "gamma": lambda each: f"a gamma of {each['gamma']} thousandths"}
@@ -42,13 +42,13 @@ def other_terms(said, terms, whose):
 
 
 def first_difference(said, plan):
-    """The first assertion whose draws aren't those of a plan by the same terms."""
+    """The first assertion whose draws aren't those of a plan with the same terms, in words."""
     pairs = zip(said["draws"], plan["draws"])
     return next((f"assertion {j} has {in_words(had)}, and needs {in_words(needed)}" for j, (had, needed) in enumerate(pairs, 1) if had != needed), None)
 
 
 def shown(said, plan, known, whose):
-    """The numbers that stand beside the assertions: of the plan if there is one, and of the file where these are others."""
+    """The numbers next to the assertions: those of the plan if there is one, and also those of the file if they differ."""
     if not (said or plan):
         return None
     other = said and other_terms(said, known, whose)

@@ -1,4 +1,4 @@
-"""A poll, from the program's text."""
+"""A poll, from the program's answer."""
 import math
 
 import plain_audit
@@ -7,19 +7,19 @@ COUNTED = (0, 10)  # the statuses of a poll whose draws were counted
 
 
 def poll_of(status, text):
-    """Its terms, and of each assertion its counts and its risk; or the lines that tell why nothing was polled."""
+    """The poll's terms, and the counts and the risk of each assertion; or the lines that say why nothing was polled."""
     lines = text.splitlines()
     if status not in COUNTED:
         return {"status": status, "lines": lines}
-    is_each = lines[0].startswith("contest ")  # it says more, since it is published by itself
+    is_each = lines[0].startswith("contest ")  # this answer says more, since it is published by itself
     head, claims = (lines[2:6], lines[7:-1]) if is_each else (lines[:4], lines[4:-1])
     terms = {name: value if value == "best" else int(value) for name, value in map(str.split, head)}
     return {**terms, "is_each": is_each, "status": status, "claims": [claim_of(line, terms["limit"]) for line in claims]}
 
 
 def claim_of(line, limit):
-    """The numbers of a line. They are read from its end, since ids may have blanks. A poll that looks after each draw also says by which gamma, and
-    by which draw."""
+    """The numbers of a line. They are read from its end, since ids may have blanks. A poll that looks after each draw also says the gamma and the
+    confirming draw."""
     head, _, numbers = line.rpartition(" counts ")
     against, neither, speaking, _, risk, state, *by_draw = numbers.split(" ")
     counts, units = {"against": int(against), "neither": int(neither), "speaking": int(speaking)}, int(risk.replace(".", ""))
@@ -33,12 +33,12 @@ def last_draw(poll):
 
 
 def width_of(units, limit):
-    """How long the bar of a risk is, in percent and by powers of ten: 100 of the risk 1 or more, 75 of the limit, 0 from its fourth power down."""
+    """The length of a risk's bar, in percent, by powers of ten: 100 for a risk of 1 or more, 75 for the limit, 0 from the limit's fourth power down."""
     return round(min(100, 100 * max(0, 1 - math.log(plain_audit.UNIT / units) / (4 * math.log(10**6 / limit)))), 3)
 
 
 def in_words(claim):
-    """Which cards speak for an assertion, and which against it."""
+    """Which cards speak for an assertion, and which speak against it, in words."""
     w, l = claim["winner"], claim["loser"]
     if claim["kind"] == "NEN":
         return f"for it: {w} is ranked highest of them; against it: {l} is"

@@ -1,4 +1,4 @@
-"""What the program answers. A page shows its numbers, and refuses what it refuses."""
+"""The program's answers. A page shows the program's numbers, and refuses what the program refuses."""
 import hashlib
 import os
 import shlex
@@ -20,7 +20,7 @@ def words_of(command, paths, options):
 
 
 class Program:
-    """Runs it, and keeps what it was asked. RAIRE names another program than ./raire."""
+    """Runs the program, and keeps what it was asked. RAIRE may name another program than ./raire."""
 
     def __init__(self):
         own = os.path.join(TOP, "raire")
@@ -34,7 +34,7 @@ class Program:
             self.build()
 
     def build(self):
-        """Where there is no program yet, ./raire tells how far it is, on standard error."""
+        """Builds the program if there is none yet. ./raire reports its progress on standard error."""
         with share.away():
             built = subprocess.run([self.path, "--build"], stdout=subprocess.DEVNULL)
         if built.returncode:
@@ -47,13 +47,13 @@ class Program:
             raise told(f"{self.name} doesn't run: {fault.strerror}") from None
 
     def run(self, command, paths, *options, is_shown=True):
-        """Status and text of an answer; None where the program has no such command."""
+        """The status and the text of an answer; None if the program doesn't have the command."""
         ran = self.answer(words_of(command, paths, options))
         if ran.returncode == 1:
             return None
         self.was_asked = True
         out, err = ran.stdout.decode(errors="replace"), ran.stderr.decode(errors="replace")
-        if ran.returncode not in (0, 3, 4, 5, 6, 10) or (err and ran.returncode != 4):  # a spent budget has a line of ./raire's own
+        if ran.returncode not in (0, 3, 4, 5, 6, 10) or (err and ran.returncode != 4):  # ./raire adds its own line if the budget runs out
             raise Refusal(ran.returncode or 1, err or f"show: {self.name} ended with status {ran.returncode}\n")
         if not out:
             raise self.is_another(command)
@@ -62,7 +62,7 @@ class Program:
         return ran.returncode, out
 
     def tell(self, status, command, paths, *options):
-        """The page says that this was asked."""
+        """Records that this was asked, for the page to say."""
         self.asked.append({"words": shlex.join([self.name, *words_of(command, paths, options)]), "status": status})
 
     def must_run(self, command, paths, *options, is_shown=True):
@@ -75,7 +75,7 @@ class Program:
         return told(f"{self.name} doesn't answer “{command}” as ./raire does")
 
     def judge_assertions(self, path):
-        """Refuses what is no assertion file, by a check against a contest that isn't its own."""
+        """Refuses what isn't an assertion file, by a check against a contest that isn't its own."""
         with tempfile.TemporaryDirectory() as folder:
             ballots = os.path.join(folder, "ballots.raire")
             with open(ballots, "wb") as file:

@@ -1,10 +1,10 @@
-"""The rounds of a tabulation, from the program's text."""
+"""The rounds of a tabulation, from the program's answer."""
 
-LONGEST_BESIDE = 12  # letters of a name that stands beside its bar; a longer one makes all stand above theirs
+LONGEST_BESIDE = 12  # letters of a name that fits next to its bar; if one is longer, all names are put above their bars
 
 
 def parsed(line, label, remaining):
-    """The votes of those who remain, and the exhausted ballots, of one line. Ids may have blanks and equals signs."""
+    """The votes of the remaining candidates and the exhausted ballots in a line. Ids may have blanks and equals signs."""
     rest, votes = line[len(label):], {}
     for c in remaining:
         number, _, rest = rest[len(f" {c}="):].partition(" ")
@@ -14,7 +14,7 @@ def parsed(line, label, remaining):
 
 
 def tie_of(text, names):
-    """The first of the ties that leave open who wins: its round, who shares the least votes, and these."""
+    """The first of the ties that leave the winner open: its round, who shares the fewest votes, and the number of these votes."""
     _, number, tied, tally = text.splitlines()
     return {
         "number": int(number[len("round "):]), "tied": [names.of(c) for c in tied[len("tied "):].split(",")], "votes": int(tally[len("tally "):]),
@@ -22,7 +22,7 @@ def tie_of(text, names):
 
 
 def rounds_of(text, ids, names):
-    """Each round with everyone's votes, how many of them are new, who shares the least, and where the votes of who leaves go next."""
+    """Each round with everyone's votes, how many of them are new, who shares the fewest, and where the votes of the eliminated candidate go next."""
     lines = text.splitlines()
     records, lines, remaining, rounds = int(lines[1][len("records "):]), lines[2:], list(ids), []
     for number in range(1, len(ids)):
@@ -44,7 +44,7 @@ def rounds_of(text, ids, names):
 
 
 def scale_of(rounds):
-    """One scale for all bars of a page: the most votes, how many letters the longest numbers beside the bars have, and whether names are long."""
+    """One scale for all bars of a page: the largest number of votes, the length of the longest numbers next to the bars, and whether names are long."""
     shown = [
         (votes, f"{votes:,}", f" +{each['gained'][c]:,}" if each["gained"][c] else "")
         for each in rounds for c, votes in each["votes"].items()

@@ -1,4 +1,4 @@
-"""The state of an audit, for the top of a page. A mark and a frame tell it too, for those who see no colours or no words."""
+"""The state of an audit, for the top of a page. A mark and a frame show it too, for those who don't see colors or don't read words."""
 import audit
 import county
 import polled
@@ -8,7 +8,7 @@ from texts import millionths, plural
 
 MARKS = {"unaudited": "○", "open": "◐", "unsigned": "✗", "said": "?", "signed": "✓", "against": "▲", "counted": "■", "part": "◪", "unusual": "!"}
 USUAL_GAMMAS = range(50, 201)
-ANY_GAMMA = range(1, GREATEST_GAMMA + 1)  # of a poll: which is best depends on how close its assertions are
+ANY_GAMMA = range(1, GREATEST_GAMMA + 1)  # for a poll: the best one depends on how close its assertions are
 
 
 def told(kind, head, text):
@@ -16,7 +16,7 @@ def told(kind, head, text):
 
 
 def states(parts):
-    """What stands on top: whether there is an audit and how far it is, what speaks against it, and what is unusual of its terms."""
+    """What is at the top: whether there is an audit and how far it is, what speaks against it, and what is unusual about its terms."""
     session, counted = parts["session"], parts["counted"]
     if parts["poll"]:
         return of_poll(parts["poll"], parts["assertions"]["winner"])
@@ -40,7 +40,7 @@ def of_no_session(parts):
 
 
 def of_count(counted, recorded, manifest):
-    """What a full count says, whether the records say the same, and whether each card has a ballot in it."""
+    """What a full count says, whether the records say the same, and whether each card has a ballot in the count."""
     kind, head, more = wholeness(counted["records"], manifest["cards"] if manifest else None, recorded.get("records"))
     if "winner" not in counted:
         return told(kind, head, f"{counted['file']} leaves open who wins.")
@@ -51,7 +51,7 @@ def of_count(counted, recorded, manifest):
 
 
 def wholeness(ballots, cards, records):
-    """Whether a count has a ballot for each card of the manifest, or for each record where there is no manifest."""
+    """Whether a count has a ballot for each card of the manifest, or for each record if there is no manifest."""
     all_of, what = (cards, "CARDS") if cards is not None else (ballots if records is None else records, "RECORDS")
     if ballots < all_of:
         more = "This isn’t a full count until each of them is accounted for: a card that doesn’t have the contest, or one that can’t be found."
@@ -63,7 +63,7 @@ def wholeness(ballots, cards, records):
 
 
 def of_poll(poll, winner):
-    """Whether a poll confirms the winner. One that doesn't says nothing about who won."""
+    """Whether a poll confirms the winner. A poll that doesn't says nothing about who won."""
     if "claims" not in poll:
         return [not_polled(poll)]
     limit, draws, claims = millionths(poll["limit"]), plural(poll["draws"], "draw"), poll["claims"]
@@ -84,12 +84,12 @@ def of_poll(poll, winner):
 
 
 def of_county(all_of):
-    """How many contests are signed off, and what is unusual of their terms."""
+    """How many contests are signed off, and what is unusual about their terms."""
     return [told(*county.state_in_words(all_of)), *unusual(all_of.terms)]
 
 
 def not_polled(poll):
-    """The program asks first whether the assertions prove the winner."""
+    """Why nothing was polled. The program first finds out whether the assertions prove the winner."""
     shown = ", ".join(poll["shown"])
     if poll["status"] == 6:
         return told("unsigned", "NOT POLLED:", f"the assertions don’t prove the winner of their file ({shown}).")
@@ -125,7 +125,7 @@ OTHERWISE = "The program ran the whole audit again, and ended with other bytes."
 
 
 def unusual(session, gammas=USUAL_GAMMAS):
-    """Terms that few audits have; who sees them asks for the reason."""
+    """Terms that few audits have. People who see them should ask for the reason."""
     found = []
     if not term_notes.is_usual(session["limit"]):
         side, bound = ("above", term_notes.MOST_USUAL_LIMIT) if session["limit"] > term_notes.MOST_USUAL_LIMIT else ("below", term_notes.LEAST_USUAL_LIMIT)

@@ -1,4 +1,4 @@
-"""The votes of each candidate of a contest once some are gone, for each set of these. Sets are bits, by the places of the candidates."""
+"""The votes of each candidate of a contest after some are gone, for each set of those who are gone. A set has a bit for each candidate's place."""
 import re
 from array import array
 from collections import Counter
@@ -9,7 +9,7 @@ LANE = 4  # bytes of a number; there are at most 1,000,000 ballots
 
 
 def rankings_of(data, contests, name, ids):
-    """How many ballots of a contest have each ranking, in a file of so many contests that the program has read and that has no quotes."""
+    """The number of a contest's ballots with each ranking, in a file with this many contests that the program has read and that has no quotes."""
     data = data.removeprefix(MARK).removeprefix(MARK)
     records = [line for line in re.split("[\r\n]", data.decode("latin-1")) if line.strip(" \t")]
     own = (fields for fields in (record.split(",", 2) for record in records[1 + contests:]) if fields[0].strip(" \t") == name)
@@ -21,7 +21,7 @@ def rankings_of(data, contests, name, ids):
 
 
 def with_sums(numbers, n):
-    """Of numbers for each set, the sums over its parts. All are added up at once, as the digits of one long number."""
+    """For numbers by set, the sums over each set's subsets. All are added up at once, as the digits of one long number."""
     total = int.from_bytes(numbers.tobytes(), "little")
     for c in range(n):
         few = LANE << c
@@ -42,11 +42,11 @@ class Tallies:
         self.sums = [with_sums(numbers, n) for numbers in self.sums]
 
     def votes(self, c, standing):
-        """How many ballots count for a candidate if just these stand."""
+        """The number of ballots that count for a candidate if only these candidates are left."""
         return self.sums[c][self.all & ~standing]
 
     def neb(self, w, l):
-        """The margin of a NEB: the first preferences of w, and what l can have at most while w stands."""
+        """The margin of a NEB: the first preferences of w, minus the most that l can have while w is still in."""
         return self.votes(w, self.all) - self.votes(l, 1 << w | 1 << l)
 
     def nen(self, w, l, standing):

@@ -5,7 +5,7 @@ import sys
 
 try:
     import jinja2
-except ImportError:  # the help wants no templates
+except ImportError:  # the help needs no templates
     jinja2 = None
 
 import apart
@@ -34,17 +34,17 @@ HELP = os.path.join(TOP, "docs", "help", "show.txt")
 BUDGETS = {"--nodes": MOST_NODES, "--sets": MOST_SETS}
 NUMBERS = {**BUDGETS, "--draws": MOST_DRAWS, "--limit": GREATEST_LIMIT, "--gamma": GREATEST_GAMMA}
 POLL = ("--seed", "--draws", "--limit", "--gamma")
-EACH, BEST = "--each", "--gamma=best"  # of a poll that looks after each draw; with it gamma may be fitted to each margin
+EACH, BEST = "--each", "--gamma=best"  # for a poll that looks after each draw, in which gamma may be fitted to each margin
 OPTIONS = ("--contest", *BUDGETS, *POLL, EACH)
 UNWRITTEN = Refusal(8, "show: the page could not be written\n")
 MOST_LISTED = 100
-BEFORE = "SESSION"  # for the session so far, among the words that the page says the program was asked with
+BEFORE = "SESSION"  # stands for the session so far in the words with which the page says the program was asked
 POLLED = ("manifest", "assertions", "seen")
 UNCOUNTED = re.compile("no: contest differs|no: winner is |no: assertion [0-9]+ has |tie")  # the margins may be others
 
 
 def words_of(words):
-    """The paths and the options of a call, as ./raire takes them: what begins with - is an option before a word --."""
+    """The paths and the options of a call, as ./raire takes them: a word that begins with - is an option until a word --."""
     paths, options, rest = [], {}, list(words)
     while rest:
         word = rest.pop(0)
@@ -90,7 +90,7 @@ def see_values(options):
 
 
 def see_output(paths):
-    """No page is written over a file that it is made of, or into a terminal."""
+    """Refuses to write the page over a file that it is made from, or to a terminal."""
     if sys.stdout is None:
         raise UNWRITTEN
     if sys.stdout.isatty():
@@ -101,7 +101,7 @@ def see_output(paths):
 
 
 class Page:
-    """What is known of the files, part by part."""
+    """What is known about the files, part by part."""
 
     def __init__(self, given, options, program):
         self.files, self.options, self.program, self.notes = given, options, program, []
@@ -110,7 +110,7 @@ class Page:
             "other_form", "is_plurality", "is_opened", "is_replayed", "poll", "county", "apart",
         ))
         self.names = Names(given.get("names"))
-        self.judged = set(files.KINDS) - files.NOT_THE_PROGRAMS  # the kinds that the program judges; seen cards once it has run the audit again
+        self.judged = set(files.KINDS) - files.NOT_THE_PROGRAMS  # the kinds that the program judges; seen cards are added when it has run the audit again
         self.manifest = self.ballots = None  # as this page reads them
 
     def path(self, kind):
@@ -141,7 +141,7 @@ class Page:
             self.parts["other_form"] = {"added": audit.added(file)}
 
     def read_assertions(self):
-        """The members of the assertion file; the contest is its own where none is named."""
+        """The members of the assertion file. If no contest is named, the file's own is meant."""
         if not self.has("assertions"):
             return
         self.program.judge_assertions(self.path("assertions"))
@@ -183,20 +183,20 @@ class Page:
             self.parts["tabulation"] = self.tabulation(status, text, contests[name])
 
     def read_firsts(self):
-        """Who stands first on how many ballots, as this page counts them: the differences have to be the session's margins."""
+        """Counts the ballots on which each candidate is first. The differences must be the session's margins."""
         contest = self.read_contest()
         if [margin for _, margin in firsts.claims_of(contest)] != self.parts["session"]["margins"]:
             raise told(f"{self.path('ballots')} doesn't have the margins of {self.path('session')}")
         self.parts["firsts"] = firsts.count_of(contest, self.shown(contest.ids))
 
     def tabulation(self, status, text, ids):
-        """The rounds; or the tie that leaves open who wins; or that the budget ended before it was known whether the ties do."""
+        """The rounds; or the tie that leaves the winner open; or that the budget ran out before it was known whether the ties do."""
         if status == 0:
             return rounds.rounds_of(text, ids, self.names)
         return {"tie": rounds.tie_of(text, self.names)} if status == 3 else {"spent": text.splitlines()}
 
     def read_count(self):
-        """The ballots that were counted in full: those of the same contest, as a ballot file has them."""
+        """Reads the full count: the ballots of the same contest, in a ballot file."""
         if not self.has("counted"):
             return
         path, name, is_plurality = self.path("counted"), self.parts["contest"], self.parts["is_plurality"]
@@ -221,14 +221,14 @@ class Page:
         self.parts["verdict"] = {"status": status, "lines": lines, "shown": [self.names.in_line(line, self.parts["ids"]) for line in lines]}
 
     def rankings(self):
-        """How many ballots have each ranking; None if that would take long."""
+        """The number of ballots with each ranking; None if counting them would take long."""
         data = self.files["ballots"].data
         if self.ballots:
             return self.ballots.rankings
         return None if b'"' in data else tallies.rankings_of(data, len(self.contests()), self.parts["contest"], self.parts["ids"])
 
     def find_apart(self):
-        """Orders that show that no NEN of the assertion file can be spared, if it holds for the ballots."""
+        """Finds orders that show that no NEN of the assertion file can be spared, if the file holds for the ballots."""
         file, verdict = self.parts["assertions"], self.parts["verdict"]
         if verdict and verdict["status"] == 0 and apart.may_be_found(file) and (rankings := self.rankings()):
             orders = apart.found(self.parts["ids"], rankings, file)
@@ -251,7 +251,7 @@ class Page:
             self.read_plan(path)
 
     def see_cards(self, cards):
-        """The other files count on the cards of the manifest."""
+        """Checks that the other files fit the manifest's number of cards."""
         session, file, path = self.parts["session"], self.parts["assertions"], self.path("manifest")
         if session and session["cards"] != cards:
             raise told(f"{self.path('session')} is about {plural(session['cards'], 'card')}, and {path} has {cards:,}")
@@ -268,7 +268,7 @@ class Page:
         return self.ballots
 
     def link(self):
-        """The record of each card that has a ballot; each ballot has to name a card."""
+        """The record of each card that has a ballot. Each ballot must name a card."""
         try:
             recorded = plain_audit.linked(self.read_contest(), self.manifest)
         except plain_audit.Broken as broken:
@@ -282,7 +282,7 @@ class Page:
         self.recorded = recorded
 
     def read_plan(self, path):
-        """By the terms of the session, or of the assertion file where it has some."""
+        """Makes a plan with the terms of the session, or with those of the assertion file if it has some."""
         given = self.parts["session"] or planned.said_by(self.parts["assertions"])
         limits = [f"--limit={given['limit']}", f"--gamma={given['gamma']}"] if given else []
         _, text = self.program.must_run("plan", [path, self.path("assertions")], *limits)
@@ -290,7 +290,7 @@ class Page:
         self.parts["plan"] = planned.planned(text, {**terms, "cards": self.manifest.cards})
 
     def make_draws(self):
-        """The clean draws by the file and by the plan; terms of the file that aren't those of session or manifest."""
+        """The clean draws by the file and by the plan, and the terms of the file that differ from those of the session or the manifest."""
         file, session, manifest = (self.parts[name] for name in ("assertions", "session", "manifest"))
         if not file or self.is_poll():
             return
@@ -299,7 +299,7 @@ class Page:
         self.parts["draws"] = planned.shown(planned.said_by(file), self.parts["plan"], known, whose)
 
     def is_of_sample(self):
-        """The options are those of a sample: a poll's, or those of all contests of a ballot file."""
+        """Whether the options are those of a sample: a poll's, or those for all contests of a ballot file."""
         return not self.options.keys().isdisjoint((*POLL, EACH))
 
     def is_county(self):
@@ -309,7 +309,7 @@ class Page:
         return self.is_of_sample() and not self.is_county()
 
     def read_poll(self):
-        """The poll, by the program: all draws anew."""
+        """Has the program poll, with all draws made anew."""
         if not self.is_poll():
             return
         words = [f"{name}={self.options[name]}" for name in POLL if name in self.options] + [EACH] * (EACH in self.options)
@@ -325,15 +325,15 @@ class Page:
         return [f"{name}={self.options[name]}" for name in BUDGETS if name in self.options]
 
     def audit_kinds(self):
-        """The files with which an audit is opened."""
+        """The kinds of files with which an audit is opened."""
         return ("ballots", "manifest") if self.parts["is_plurality"] else ("ballots", "manifest", "assertions")
 
     def audit_commands(self):
-        """The commands that open an audit and go on with it."""
+        """The commands that open an audit and continue it."""
         return ("plurality", "plurality") if self.parts["is_plurality"] else ("open", "audit")
 
     def replay(self):
-        """The whole audit once more, by the program: it has to end with the bytes of the session."""
+        """Has the program run the whole audit again. It must end with the bytes of the session."""
         session, kinds = self.parts["session"], self.audit_kinds()
         if not session or not self.has(*kinds):
             return
@@ -364,7 +364,7 @@ class Page:
             self.parts["is_replayed"] = text.encode() == self.files["session"].data
 
     def see_round(self, number, done, made):
-        """A round as the program makes it now has to have the counts of the session."""
+        """Checks that a round has the same counts in the session as when the program makes it now."""
         counts = made["rounds"][-1]["counts"] if made and made["rounds"] else done["counts"]
         for j, (mine, had) in enumerate(zip(counts, done["counts"]), 1):
             if mine != had:
@@ -372,11 +372,11 @@ class Page:
                 raise told(f"{self.path('seen')} doesn't give round {number} of {self.path('session')}: {both}")
 
     def candidates(self):
-        """The candidates that a seen file may name, where another file tells them."""
+        """The candidates that a seen file may name, if another file lists them."""
         return self.parts.get("ids") or (self.parts["assertions"] and self.parts["assertions"]["candidates"])
 
     def read_seen(self):
-        """What the seen file says, by as many of its rules as the other files allow to judge."""
+        """What the seen file says, judged by as many of its rules as the other files allow."""
         if not self.has("seen"):
             return
         ids = self.candidates()
@@ -390,7 +390,7 @@ class Page:
             self.compare_seen(seen)
 
     def compare_seen(self, seen):
-        """The cards that were drawn and seen otherwise than recorded."""
+        """The drawn cards that differ from their records."""
         session = self.parts["session"]
         claims = firsts.claims_of(self.ballots) if self.parts["is_plurality"] else plain.read_assertions(self.files["assertions"].data)["assertions"]
         last = session["rounds"][-1] if session["rounds"] else {"draws": 0, "counts": [[0] * 5] * len(claims)}
@@ -405,7 +405,7 @@ class Page:
         }
 
     def note_unjudged(self):
-        """What this page has made of seen cards that the program has not judged."""
+        """Notes how this page has judged seen cards that the program hasn't judged."""
         if self.has("seen") and "seen" not in self.judged:
             seen, why = self.parts["seen_file"], "nothing was polled" if self.is_poll() else "it does that in an audit, of a session and all its files"
             judged = ["V1", *["V2"] * seen["has_manifest"], "V3", *["V5"] * seen["has_candidates"]]
@@ -418,17 +418,17 @@ class Page:
         return [self.names.of(c) for c in ids]
 
     def shown_of(self, ballots):
-        """The candidates of a contest by their names; from here on names are those of this contest."""
+        """The candidates of a contest by their names. From here on, names are those of this contest."""
         self.names.see(ballots.ids, ballots.name)
         return self.shown(ballots.ids)
 
     def named(self, claim):
-        """An assertion with names for ids."""
+        """An assertion with names instead of ids."""
         rest = {"rest": self.shown(claim["rest"])} if "rest" in claim else {}
         return {**claim, "winner": self.names.of(claim["winner"]), "loser": self.names.of(claim["loser"]), **rest}
 
     def named_assertions(self):
-        """The assertion file with names for ids, as the page shows it; its assertions are named once they are shown."""
+        """The assertion file with names instead of ids, as the page shows it. Its assertions get names when they are shown."""
         file = self.parts["assertions"]
         if file:
             file = {**file, "winner": self.names.of(file["winner"]), "candidates": self.shown(file["candidates"])}
@@ -436,7 +436,7 @@ class Page:
         return file
 
     def make_claims(self):
-        """A row an assertion: words, margin, what it cuts, its draws and its risk. Only those that are shown have words."""
+        """Makes a row for each assertion: its words, its margin, what it cuts, its draws and its risk. Only rows that are shown have words."""
         given, file, tabulation, verdict = self.parts["assertions"], self.named_assertions(), self.parts["tabulation"], self.parts["verdict"]
         states = audit.state(self.parts["session"]) if self.parts["session"] else (self.parts["poll"] or {}).get("claims")
         if not file:
@@ -460,12 +460,12 @@ class Page:
             rows[j]["words"] = in_words(self.named(file["assertions"][j]), first, self.is_poll())
 
     def words_of_claims(self, states):
-        """What the claims of a session without an assertion file say: those of a plurality contest, once its ballots are given."""
+        """The words for the claims of a session without an assertion file: those of a plurality contest, if its ballots are given."""
         count = self.parts["firsts"]
         return [firsts.in_words(count, c) for c in count["behind"]] if count else [None] * len(states or [])
 
     def list_claims(self, claims):
-        """All of them, and those that the page has room for: the highest risks, or else the smallest margins."""
+        """Keeps all claims, and lists those that the page has room for: the highest risks, or else the smallest margins."""
         for j, row in enumerate(claims):
             row["number"] = j + 1
         first = sorted(claims, key=lambda row: (-(row["state"] and row["state"]["risk"] or 0), row["margin"]))
@@ -473,7 +473,7 @@ class Page:
         self.parts["listed"] = sorted(first[:MOST_LISTED], key=lambda row: row["number"])
 
     def see_options(self):
-        """Each option has to have a meaning for the files that are given."""
+        """Checks that each option has a meaning for the files that are given."""
         if self.is_county():
             county.see_files(self)
         elif self.is_poll():
@@ -488,7 +488,7 @@ class Page:
             raise told(f"{self.path('names')} names candidates: give a ballot file or an assertion file too")
 
     def see_poll(self):
-        """A poll has its seed, its draws and its three files, and none that a comparison has."""
+        """Checks that a poll has its seed, its draws and its three files, and no file that only a comparison has."""
         is_whole = self.has_terms() and self.has(*POLLED)
         if not is_whole or {"ballots", "session"} & set(self.files):
             raise told(
@@ -526,7 +526,7 @@ def shown_counts(counts):
 
 
 def in_words(claim, first, is_polled):
-    """What an assertion says, in two parts: the claim, and the votes it rests on or, of a poll, the cards that speak for it and against it."""
+    """An assertion in words, in two parts: the claim, and the votes it rests on or, for a poll, the cards that speak for it and against it."""
     w, l, margin = claim["winner"], claim["loser"], claim["margin"]
     if claim["kind"] == "NEN":
         left = [c for c in claim["rest"] if c not in (w, l)]
@@ -561,7 +561,7 @@ def filled(page):
 
 
 def filled_county(page, made):
-    """A page of all contests: a row each, which opens its contest."""
+    """A page of all contests, with a row for each that opens its contest."""
     all_of = page.parts["county"]
     for contest in all_of.contests:
         drawn = contest["tabulation"].get("rounds")
@@ -578,7 +578,7 @@ def filled_county(page, made):
 
 
 def rounds_drawn(parts):
-    """All that has bars: the rounds of records and full count, or their first preferences."""
+    """Everything that has bars: the rounds of the records and of the full count, or their first preferences."""
     counts = [each for each in (parts["tabulation"], parts["firsts"], parts["counted"]) if each]
     return [each for count in counts for each in count.get("rounds", [count] if "votes" in count else [])]
 
@@ -597,7 +597,7 @@ def put(text):
         sys.stdout.flush()
     except (AttributeError, OSError):
         if sys.stdout is not None:
-            os.dup2(os.open(os.devnull, os.O_WRONLY), sys.stdout.fileno())  # what is left goes nowhere when Python ends
+            os.dup2(os.open(os.devnull, os.O_WRONLY), sys.stdout.fileno())  # the rest goes nowhere when Python ends
         raise UNWRITTEN from None
 
 

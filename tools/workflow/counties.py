@@ -1,4 +1,4 @@
-"""The folder of a state: its counties, their contests and files, and what is made of them."""
+"""The folder of a state: its counties, their contests and files, and what is made from them."""
 import hashlib
 import itertools
 import json
@@ -13,19 +13,19 @@ from ask import Refusal
 from limits import MOST_CONTESTS
 from terms import Terms
 
-HEAD_BYTES = 65_536  # of a ballot file; where its contests are more, all of it is read
+HEAD_BYTES = 65_536  # the part of a ballot file that is read first; if its contests take more, all of it is read
 MADE = "made"
 PLAN = "plan.json"
 
 
 def name_of(contest):
-    """The name of a contest's folder: its id, with letters that no name of a file should have written as in a link."""
+    """The name of a contest's folder: its id, in which characters that no file name should have are escaped as in a URL."""
     name = urllib.parse.quote_plus(contest)
     return "%2E" + name[1:] if name.startswith(".") else name
 
 
 class Look(NamedTuple):
-    """An audit after so many draws, and the file of the cards that were read for it, if it is there."""
+    """A look of an audit after a number of draws, and the file of the cards that were read for it, if it is there."""
     draws: int
     seen: str
 
@@ -52,7 +52,7 @@ class Contest(NamedTuple):
         return self.given("ballots.raire")
 
     def manifest(self, top):
-        """Of its own batches, if there is such a file; else the county's, as it is where one sample is of all its contests."""
+        """The manifest of the contest's own batches, if there is one; otherwise the county's. With one sample for all contests it is always the county's."""
         own = self.given(name_of(self.id), "manifest.csv")
         return own if self.terms.audit != "contests" and os.path.exists(os.path.join(top, own)) else self.given("manifest.csv")
 
@@ -79,12 +79,12 @@ class County(NamedTuple):
         return looks_of(top, self.given(), self.terms.draws)
 
     def one_call(self):
-        """Whether all contests are audited on one sample, by one call a look."""
+        """Whether all contests are audited on one sample, with one call for each look."""
         return self.is_read and self.terms.audit == "contests"
 
 
 def looks_of(top, folder, draws):
-    """`seen_40.csv` has the cards of the first 40 draws; `seen.csv` stands for the file of the last look."""
+    """The looks at these numbers of draws. `seen_40.csv` has the cards of the first 40 draws, and `seen.csv` stands for the file of the last look."""
     looks = []
     for number in draws:
         names = [f"seen_{number}.csv", *["seen.csv"] * (number == draws[-1])]
@@ -94,14 +94,14 @@ def looks_of(top, folder, draws):
 
 
 def seen_in(top, folder):
-    """The files in a folder whose names say that they are of cards that were read."""
+    """The files in a folder whose names say that they have cards that were read."""
     full = os.path.join(top, folder)
     names = sorted(os.listdir(full)) if os.path.isdir(full) else []
     return [os.path.join(folder, name) for name in names if re.fullmatch(r"seen.*\.csv", name, re.ASCII | re.IGNORECASE)]
 
 
 def contests_of(path):
-    """Of each contest its id and the number of its candidates, or None where the program will refuse the head of the file."""
+    """The number of candidates of each contest by its id, or None if the program will refuse the head of the file."""
     try:
         with open(path, "rb") as file:
             for size in (HEAD_BYTES, -1):
@@ -136,13 +136,13 @@ def read(top):
 
 
 def county_in(rows, name, contests):
-    """A county by the table's rows; `contests` has the numbers of their candidates, or is None where its file can't be read."""
+    """A county with the terms of the table's rows. `contests` has the numbers of their candidates, or is None if the county's file can't be read."""
     each = [Contest(name, id, size, rows.of(name, id)) for id, size in (contests or {}).items()]
     return County(name, rows.of(name), [contest for contest in each if contest.terms.audit != "skip"], contests is not None)
 
 
 def batches_of(counties, size):
-    """Counties one after the other, so many contests or a few more in each batch."""
+    """The counties in order, in batches of this many contests or a few more."""
     batches, count = [[]], 0
     for county in counties:
         if count >= size:
@@ -154,11 +154,11 @@ def batches_of(counties, size):
 
 
 class Plan(NamedTuple):
-    """What a job needs to know, so that each node knows the same."""
+    """What a job needs to know, so that all nodes know the same."""
     top: str
     program: str
     digest: str  # of the program
-    version: str  # what a page says of the program, or an empty text for another one than ./raire
+    version: str  # what a page says about the program, or an empty text for another one than ./raire
     seconds: int  # after which a run is stopped
     pages: bool
     batches: dict
@@ -186,9 +186,9 @@ def county_of(name, terms, contests, is_read):
 
 
 def write_whole(path, data):
-    """A file has its name only once it is whole."""
+    """Writes a file that gets its name only when it is whole."""
     os.makedirs(os.path.dirname(path), exist_ok=True)
-    part = f"{path}.{os.uname().nodename}.{os.getpid()}.part"  # two nodes may have processes of one number
+    part = f"{path}.{os.uname().nodename}.{os.getpid()}.part"  # two nodes may have processes with the same number
     with open(part, "wb") as file:
         file.write(data)
     os.replace(part, path)

@@ -1,4 +1,4 @@
-"""./raire state: plans the jobs of a state, has Snakemake run them, and tells what came of them."""
+"""./raire state: plans the jobs of a state, has Snakemake run them, and reports the results."""
 import contextlib
 import fcntl
 import os
@@ -21,7 +21,7 @@ SNAKEMAKE = "snakemake"
 OWN = os.path.join(TOP, "crates", "raire", "out", "raire")
 HERE = os.path.dirname(os.path.abspath(__file__))
 CONTESTS_A_JOB, SECONDS_A_RUN = 50, 600
-LAST_LINES = 20  # of Snakemake's, if no step says why
+LAST_LINES = 20  # of Snakemake's output, if no step says why it failed
 FAILED = 1
 
 
@@ -39,7 +39,7 @@ def number_of(count, one, more=""):
 
 
 def words_of(words):
-    """The words of ./raire state, and behind a word -- those for Snakemake."""
+    """The words of ./raire state and, after a word --, those for Snakemake."""
     own, further = (words[:words.index("--")], words[words.index("--") + 1:]) if "--" in words else (words, [])
     parser = Words(NAME)
     parser.add_argument("folder")
@@ -56,7 +56,7 @@ def words_of(words):
 
 
 def program():
-    """The program, its digest, and what its version says where it is this clone's own."""
+    """The path of the program, and its version if it is this clone's own."""
     given = os.environ.get("RAIRE")
     if given:
         path = shutil.which(given)
@@ -81,7 +81,7 @@ def see_engine(with_pages):
 
 @contextlib.contextmanager
 def alone(top):
-    """One run in a folder at a time. Snakemake gets the lock, too, so it ends once neither of them runs, however they end."""
+    """Allows one run at a time in a folder. Snakemake gets the lock too, so the lock ends when neither of them runs, however they end."""
     os.makedirs(os.path.join(top, MADE), exist_ok=True)
     with open(os.path.join(top, MADE, ".lock"), "w") as file:
         try:
@@ -104,7 +104,7 @@ def plan_of(given):
 
 
 def not_read(plan):
-    """Files of readings that no look asks for: their names or places, or the table's draws or audits, may be wrong."""
+    """Lines about files of readings that no look asks for: their names or places, or the table's draws or audits, may be wrong."""
     asked = []
     for county in plan.counties():
         asked += [(county.terms, county.given(), county.looks(plan.top) if county.one_call() else [])]
@@ -117,7 +117,7 @@ def not_read(plan):
 
 
 def prepare(plan):
-    """Takes away what stands for a step of which an output is missing, cut off, or of other files. The number of jobs that are left."""
+    """Removes the marks of finished steps whose outputs are missing, cut off, or from other files. Returns the number of jobs that are left."""
     for part in list(runs.parts_of(plan.top)):
         with contextlib.suppress(OSError):
             os.remove(part)
@@ -175,7 +175,7 @@ def send(group, number):
 
 
 def run_jobs(plan, words, left, lock):
-    """Has Snakemake run the jobs, and says after each tenth how many are done. No process of a job is left on this machine."""
+    """Has Snakemake run the jobs, and reports after each tenth how many are done. Leaves no process of a job on this machine."""
     log = os.path.join(plan.top, MADE, "snakemake.log")
     start, before, shown = time.monotonic(), count_done(plan), 0
     with open(log, "w") as file, subprocess.Popen(words, stdin=subprocess.DEVNULL, stdout=file, stderr=file, pass_fds=[lock], process_group=0) as ran:
@@ -188,7 +188,7 @@ def run_jobs(plan, words, left, lock):
                     shown = made * 10 // left
                     say(f"{made} of {number_of(left, 'job')} done after {number_of(round(time.monotonic() - start), 'second')}")
         except KeyboardInterrupt:
-            send(ran.pid, signal.SIGINT)  # it ends its jobs, those of a cluster too
+            send(ran.pid, signal.SIGINT)  # it stops its jobs, including those on a cluster
             ran.wait()
             raise
         finally:
@@ -197,7 +197,7 @@ def run_jobs(plan, words, left, lock):
 
 
 def failures(plan):
-    """What failed, and its line by county and contest."""
+    """The lines about what failed, each with its county and contest."""
     lines = []
     for step in steps.names(plan):
         for batch in plan.batches:
@@ -208,7 +208,7 @@ def failures(plan):
 
 
 def by_contest(plan, lines):
-    """The line of each county and contest. One name may begin as another does: the longest is meant."""
+    """The line of each county and contest. One name may be the beginning of another: the longest is meant."""
     names = {county.name: (county.name, "") for county in plan.counties()}
     names.update({contest.name(): (county.name, contest.id) for county in plan.counties() for contest in county.contests})
     found = {}
@@ -219,7 +219,7 @@ def by_contest(plan, lines):
 
 
 def sum_up(plan, lines):
-    """The summary; and where every step is done, what an earlier run made of other contests is taken away."""
+    """Writes the summary. If every step is done, also removes what an earlier run made from other contests."""
     from summary import Summary
 
     summary = Summary(plan, by_contest(plan, lines))
@@ -247,7 +247,7 @@ def run(given, further):
 def run_in(top, given, further):
     with alone(top) as lock:
         plan = plan_of(given)
-        plan.write(os.path.join(top, MADE, counties.PLAN))  # a job of an earlier plan that still runs somewhere stops
+        plan.write(os.path.join(top, MADE, counties.PLAN))  # this stops any job of an earlier plan that still runs somewhere
         left = prepare(plan)
         for line in not_read(plan):
             say(line)

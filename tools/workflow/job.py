@@ -1,4 +1,4 @@
-"""A job: one step for all contests of a batch. job.py PLAN STEP BATCH; what fails is told once all others are done."""
+"""Runs a job, which is one step for all contests of a batch: job.py PLAN STEP BATCH. Failures are reported after all others are done."""
 import os
 import sys
 
@@ -21,7 +21,7 @@ class Job:
         self.plan, self.failed, self.lines = Plan.read(path), set(), []
 
     def do(self, step, batch):
-        """The step, for each county and contest of which no earlier step failed."""
+        """Does the step for each county and contest for which no earlier step failed."""
         for does, who, runs in steps.each(self.plan, step, batch):
             if identity(self.path) != self.identity:
                 sys.exit("job.py: a later run has another plan")
@@ -42,7 +42,7 @@ def main(path, step, batch):
     if not job.failed:
         write_whole(steps.done(job.plan, step, batch), b"")
         return 0
-    for later in steps.later(job.plan, step):  # Snakemake doesn't begin these jobs, and the other contests of the batch need nothing of what failed
+    for later in steps.later(job.plan, step):  # Snakemake doesn't start these jobs, and the other contests of the batch need nothing from what failed
         job.do(later, batch)
     write_whole(steps.failures(job.plan, step, batch), "".join(job.lines).encode(errors="replace"))
     sys.stderr.writelines(job.lines)

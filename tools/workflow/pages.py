@@ -1,4 +1,4 @@
-"""The pages of contests and counties: those of ./raire show, made by its own code in the job's process."""
+"""The pages of contests and counties: the same as those of ./raire show, made by its code in the job's process."""
 import os
 
 import files as page_files
@@ -9,7 +9,7 @@ from runs import Failed
 
 
 class Asked(Program):
-    """./raire, whose program was seen to be built when the plan was made; another program is asked as RAIRE names it."""
+    """The program that is asked: ./raire, whose program was found to be built when the plan was made, or another one that RAIRE names."""
 
     def __init__(self, plan):
         self.name, self.path = ("./raire" if plan.version else plan.program), plan.program
@@ -41,12 +41,12 @@ def made(runs, words, files, path):
 
 
 def of_contest(contest, runs):
-    """Of the ballot file, what was published, and the last round of the contest's own session."""
+    """The page of a contest: from the ballot file, what was published, and the last round of the contest's own session."""
     terms, file = contest.terms, steps.published(contest, runs)
     files, budget = [contest.ballots()], []
     if file:
         files.append(file.file)
-        budget = [file.budget] if file.budget != steps.NODES else []  # which is the default of a page, too
+        budget = [file.budget] if file.budget != steps.NODES else []  # it is also the default of a page
         files += [contest.manifest(runs.plan.top)] if terms.audit in ("contests", "session") else []
     session, rounds = file and steps.opened(contest, runs), [(look, ran) for look, ran in steps.rounds(contest, runs) if ran.file]
     if session and session.file:
@@ -55,7 +55,7 @@ def of_contest(contest, runs):
 
 
 def of_county(county, runs):
-    """Of a county whose contests are audited by one call: its last look."""
+    """The page of a county whose contests are audited by one call: its last look."""
     terms, looks = county.terms, list(steps.called(county, runs))
     if not looks:
         return None

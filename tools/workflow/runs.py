@@ -1,4 +1,4 @@
-"""Runs the program, keeps what it prints, and takes what an earlier run kept if words, files and program are the same and every byte is still there."""
+"""Runs the program and keeps what it prints. Uses what an earlier run kept if words, files and program are the same and every byte is still there."""
 import hashlib
 import json
 import os
@@ -11,31 +11,31 @@ from counties import digest_of, MADE, write_whole
 
 TOOLS = os.path.dirname(os.path.dirname(os.path.abspath(__file__)))
 HINT_SECONDS = 30
-SILENT = {8: "an output could not be written", -signal.SIGKILL: "something killed it"}  # of these the program prints no line
+SILENT = {8: "an output could not be written", -signal.SIGKILL: "something killed it"}  # the program prints no line for these
 
 
 class Failed(Exception):
-    """A step of a contest has no result; the text has the program's line and what it was asked."""
+    """A step of a contest has no result. The text has the program's line and what it was asked."""
 
 
 class Missing(Exception):
-    """What is looked for isn't kept, or isn't whole."""
+    """A result isn't kept, or isn't whole."""
 
 
 class Ran(NamedTuple):
     status: int
-    file: str  # what keeps the output, or an empty text
-    text: str  # the output, where no file keeps it
+    file: str  # the file that keeps the output, or an empty text
+    text: str  # the output, if no file keeps it
 
 
 class Digests:
-    """SHA-256 of files, each read once as long as its time and size stay the same."""
+    """The SHA-256 of files. Each file is read once as long as its time and size stay the same."""
 
     def __init__(self, top):
         self.top, self.known = top, {}
 
     def of(self, path):
-        """None of what can't be read."""
+        """The digest of a file; None if it can't be read."""
         full = os.path.join(self.top, path)
         try:
             stat = os.stat(full)
@@ -49,7 +49,7 @@ class Digests:
 
 
 class Runs:
-    """The runs about one contest or one county. With `may_run` false nothing is run, and what isn't kept is missing."""
+    """The runs for one contest or one county. If `may_run` is false, nothing is run, and what isn't kept is missing."""
 
     def __init__(self, plan, digests, record, what, may_run=True):
         self.plan, self.digests, self.what, self.may_run = plan, digests, what, may_run
@@ -60,17 +60,17 @@ class Runs:
         try:
             with open(self.path) as file:
                 return json.load(file)
-        except (OSError, ValueError):  # none yet, or no record
+        except (OSError, ValueError):  # there is no record yet, or it isn't one
             return {}
 
     def run(self, name, words, files, kept, further=()):
-        """The result of a command. `kept` says for a status which file keeps the output; those of the `further` statuses are kept with the record. Each
+        """The result of a command. `kept` says for each status which file keeps the output. Outputs with a status in `further` are kept in the record. Every
         other status is a failure."""
         words = [*words, "--", *files]
         return self.take(name, words, files) or self.keep(name, words, files, self.asked(name, words, {*kept, *further}), kept)
 
     def make(self, name, words, files, path, made):
-        """A file that `made` gives the bytes of."""
+        """Makes a file with the bytes that `made` returns."""
         return self.take(name, words, files) or self.keep(name, words, files, (0, made()), {0: path})
 
     def key(self, words, files):
@@ -80,7 +80,7 @@ class Runs:
         return digest_of(json.dumps([words, given, self.plan.digest, said]).encode())
 
     def take(self, name, words, files):
-        entry, key = self.kept.get(name), self.key(words, files)  # what is read has its digest also where nothing is kept
+        entry, key = self.kept.get(name), self.key(words, files)  # files that are read get their digests even if nothing is kept
         if entry and entry["key"] == key and (not entry["file"] or self.digests.of(entry["file"]) == entry["digest"]):
             self.used[name] = entry
             return Ran(entry["status"], entry["file"], entry["text"])
@@ -101,7 +101,7 @@ class Runs:
         return Ran(status, file, text)
 
     def asked(self, name, words, results):
-        """Status and output of a command, whose status has to be one of the results."""
+        """The status and the output of a command. The status must be one of `results`."""
         try:
             ran = subprocess.run([self.plan.program, *words], cwd=self.plan.top, stdin=subprocess.DEVNULL, capture_output=True, timeout=self.plan.seconds)
         except subprocess.TimeoutExpired:
@@ -113,7 +113,7 @@ class Runs:
         return ran.returncode, ran.stdout
 
     def lines(self, ran, words):
-        """The program's line, and the one that ./raire adds."""
+        """The program's line, and the line that ./raire adds."""
         told = [ran.stderr.decode(errors="replace").strip() or SILENT.get(ran.returncode, "no line")]
         hint = [sys.executable, "-B", os.path.join(TOOLS, "hints", "hint.py"), self.plan.program, str(ran.returncode), *words]
         try:
@@ -124,7 +124,7 @@ class Runs:
         return "; ".join(line for line in told if line)
 
     def put_last(self, path, ran):
-        """Keeps in a file what stands in the record."""
+        """Keeps a text from the record in a file too."""
         full, data = os.path.join(self.plan.top, path), ran.text.encode()
         if self.digests.of(path) != digest_of(data):
             if not self.may_run:
@@ -153,7 +153,7 @@ def of_county(plan, digests, county, may_run=True):
 
 
 def parts_of(top):
-    """What a run that was cut off left."""
+    """The partial files that a run left when it was cut off."""
     for folder, _, names in os.walk(os.path.join(top, MADE)):
         for name in names:
             if name.endswith(".part"):

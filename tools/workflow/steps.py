@@ -1,4 +1,4 @@
-"""The steps from a ballot file to an audit, contest by contest: what is asked of the program, and which file keeps its answer."""
+"""The steps from a ballot file to an audit, contest by contest: what the program is asked, and which file keeps its answer."""
 import os
 from typing import NamedTuple
 
@@ -9,7 +9,7 @@ from runs import Failed
 TIE, SPENT, FULL_COUNT, REFUTED, UNCONFIRMED = 3, 4, 5, 6, 10
 SEARCHED = (0, TIE, SPENT, FULL_COUNT)
 NODES, SETS, MORE_NODES = f"--nodes={DEFAULT_NODES}", f"--sets={MOST_SETS}", f"--nodes={MOST_NODES}"
-NEVER_SPENT = 20  # candidates, by sets
+NEVER_SPENT = 20  # up to this many candidates, a budget of sets never runs out
 
 
 class Found(NamedTuple):
@@ -19,7 +19,7 @@ class Found(NamedTuple):
 
 
 def budgets(contest):
-    """The budgets of a search, the next one where one is spent."""
+    """The budgets of a search. When one runs out, the next is used."""
     terms = contest.terms
     own = [f"--{name}={value}" for name, value in (("nodes", terms.nodes), ("sets", terms.sets)) if value]
     return own or [NODES, SETS, *[MORE_NODES] * (contest.candidates > NEVER_SPENT)]
@@ -34,7 +34,7 @@ def of(contest):
 
 
 def tried(run, budgets):
-    """The first answer that isn't spent, with its budget; else that of the sets, which hangs on no timing."""
+    """The first answer that isn't `spent`, with its budget; otherwise the answer for sets, which doesn't depend on timing."""
     spent = {}
     for budget in budgets:
         ran = run(budget)
@@ -46,7 +46,7 @@ def tried(run, budgets):
 
 
 def searched(contest, runs):
-    """What the search prints: an assertion file, or the lines of a tie, a spent budget or a full count."""
+    """What the search prints: an assertion file, or the lines of a tie, of a budget that ran out, or of a full count."""
     floor = [f"--floor={contest.terms.floor}"] if contest.terms.floor else []
     text = contest.made("search.txt")
 
@@ -64,7 +64,7 @@ def found(contest, runs):
 
 
 def checked(contest, runs, file, budget, name="check"):
-    """By the other kind of budget than the search had, and by its own where that one is spent."""
+    """A check with the other kind of budget than the search had, or with the search's own budget if that one runs out."""
     text = contest.made(f"{name}.txt")
 
     def run(budget):
@@ -76,7 +76,7 @@ def checked(contest, runs, file, budget, name="check"):
 
 
 def published(contest, runs):
-    """The assertion file that the audit is about: trimmed where that is wanted and the budget suffices. None where there is none, or no check accepts it."""
+    """The assertion file that the audit is about, trimmed if the terms say so and the budget is enough. None if there is none, or no check accepts it."""
     search = found(contest, runs)
     if not search:
         return None
@@ -95,7 +95,7 @@ def published(contest, runs):
 
 
 def refuted(contest, runs):
-    """The check or trim that says no to what was found, and its answer; nothing where there is none."""
+    """The check or trim that says no to what was found, and its answer; None if there is none."""
     published(contest, runs)
     said = ((name, entry) for name, entry in runs.used.items() if entry.get("status") == REFUTED)
     return next(((name, running.Ran(REFUTED, entry["file"], entry["text"])) for name, entry in said), None)
@@ -113,14 +113,14 @@ def planned(contest, runs):
 
 
 def sampled(runs, who, manifest, terms):
-    """The cards of each look, if there is a seed."""
+    """Draws the cards of each look, if there is a seed."""
     if terms.seed:
         for draws in terms.draws:
             runs.run(f"sample {draws}", ["sample", f"--seed={terms.seed}", f"--draws={draws}"], [manifest], {0: who.made(f"sample_{draws}.csv")})
 
 
 def seen_looks(runs, who):
-    """The looks whose cards were read, one after the other. None of them may lack the file of an earlier one."""
+    """The looks whose cards were read, in order. The file of an earlier look must not be missing."""
     looks = who.looks(runs.plan.top)
     for at, look in enumerate(looks):
         if look.seen:
@@ -130,7 +130,7 @@ def seen_looks(runs, who):
 
 
 def opened(contest, runs):
-    """The session with no round, of a contest that has a session and a seed; or what is said in its place, which no file keeps."""
+    """The session without a round, if the contest has a session and a seed; or what the program says instead, which no file keeps."""
     terms, file = contest.terms, published(contest, runs)
     if terms.audit != "session" or not terms.seed or not file:
         return None
@@ -139,7 +139,7 @@ def opened(contest, runs):
 
 
 def rounds(contest, runs):
-    """A round for each look, up to the one that signs the contest off, or that the session doesn't go on from."""
+    """A round for each look, up to the one that signs the contest off or after which the session doesn't continue."""
     session, made = opened(contest, runs), []
     for look in seen_looks(runs, contest) if session and session.file else []:
         file, path = published(contest, runs), contest.made(f"session_{look.draws}.json")
@@ -152,7 +152,7 @@ def rounds(contest, runs):
 
 
 def halted(contest, runs):
-    """The command of a session that answers by no session, and its answer; nothing where there is none."""
+    """The command of a session whose answer isn't a session, and this answer; None if there is none."""
     asked = [("open", opened(contest, runs)), *((f"audit {look.draws}", ran) for look, ran in rounds(contest, runs))]
     return next(((name, ran) for name, ran in asked if ran and not ran.file), None)
 
@@ -164,7 +164,7 @@ def audited(contest, runs):
 
 
 def called(county, runs):
-    """All contests of a county on one sample: a call for each look whose cards were read, one after the other."""
+    """Audits all contests of a county on one sample, with a call for each look whose cards were read, in order."""
     terms = county.terms
     if not county.one_call():
         return
@@ -177,7 +177,7 @@ def called(county, runs):
 
 
 def see_head(county, runs):
-    """Of a county whose ballot file has no head that can be read, the program says why."""
+    """Fails if the head of a county's ballot file can't be read. The program says why."""
     if not county.is_read:
         runs.asked("search", ["search", "--", county.given("ballots.raire")], SEARCHED)
         raise Failed(f"{runs.what}: the contests of {county.given('ballots.raire')} can't be read")
@@ -197,7 +197,7 @@ STEPS = {
 
 
 def page_step():
-    import pages  # it needs the templates
+    import pages  # pages need the templates
 
     return Step(pages.of_contest, pages.of_county)
 
@@ -211,7 +211,7 @@ def later(plan, step):
 
 
 def each(plan, step, batch, may_run=True, digests=None):
-    """What a step does, county by county and contest by contest."""
+    """Yields what a step does, county by county and contest by contest."""
     does = STEPS.get(step) or page_step()
     digests = digests or running.Digests(plan.top)
     for county in plan.batches[batch]:

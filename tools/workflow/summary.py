@@ -1,4 +1,4 @@
-"""The summary of a state: a row for each contest, those that need a hand first, and the digests of all files."""
+"""The summary of a state: a row for each contest, with those that need attention first, and the digests of all files."""
 import collections
 import contextlib
 import csv
@@ -15,7 +15,7 @@ from runs import Digests, Failed, Missing, of_contest, of_county
 from terms import NAME as TERMS
 
 FAILED, SIGNED_OFF = "failed", "signed off"
-STATES = {  # those that need a hand first
+STATES = {  # the states that need attention come first
     FAILED: "a step failed; the line says why",
     "refuted": "a check says no to what the search printed: report it",
     "tie": "ties leave open who won",
@@ -42,20 +42,20 @@ class Row(NamedTuple):
     margin: int = ""
     assertions: int = ""
     planned: str = ""  # draws, or a full count
-    search: str = ""  # the budget with which it was found
+    search: str = ""  # the budget with which the assertions were found
     check: str = ""
     audit: str = ""
-    draws: str = ""  # of the last look
+    draws: str = ""  # the draws of the last look
     signed_off: str = ""  # the draws of the first look that signs it off
     why: str = ""
     page: str = ""
 
 
 class Blocks:
-    """What the looks of a county say of each of its contests, up to the one that failed, if one did."""
+    """What the looks of a county say about each of its contests, up to the look that failed, if one did."""
 
     def __init__(self, county, runs):
-        ids = contests_of(os.path.join(runs.plan.top, county.given("ballots.raire"))) or {}  # also those that the table skips
+        ids = contests_of(os.path.join(runs.plan.top, county.given("ballots.raire"))) or {}  # including those that the table skips
         self.looks, self.fault = [], None
         try:
             for look, ran in steps.called(county, runs):
@@ -68,7 +68,7 @@ class Blocks:
 
 
 def audit_of(contest, county, blocks, runs):
-    """The draws of the last look, those of the first that signs the contest off, and what else is said of it."""
+    """The draws of the last look, those of the first look that signs the contest off, and what else is said about it."""
     looks, why = [], ""
     if contest.terms.audit == "session":
         looks = [(look.draws, ran.status == 0) for look, ran in steps.rounds(contest, runs)]
@@ -80,7 +80,7 @@ def audit_of(contest, county, blocks, runs):
 
 
 def row_of(contest, county, blocks, runs, has_page):
-    """The row of a contest of which every step is done."""
+    """The row of a contest for which every step is done."""
     ran, budget = steps.searched(contest, runs)
     row = Row(contest.county, contest.id, "planned", contest.candidates, search=budget, audit=contest.terms.audit)
     row = row._replace(page=contest.made("page.html").removeprefix(MADE + os.sep) if has_page else "")
@@ -102,12 +102,12 @@ def row_of(contest, county, blocks, runs, has_page):
 
 
 def stopped(row, name, ran, runs):
-    """The row of a contest that can't be audited as the command of this name answers."""
+    """The row of a contest that can't be audited, because of the answer of the command with this name."""
     return row._replace(state="spent" if ran.status == steps.SPENT else "refuted", why=f"{name}: " + ", ".join(runs.text(ran).splitlines()))
 
 
 def judged(row, contest, county, blocks, runs):
-    """The row of a contest that can be audited, by its plan and its looks."""
+    """The row of a contest that can be audited, from its plan and its looks."""
     planned = runs.text(steps.planned(contest, runs)).splitlines()[-1].removeprefix("all: ").removesuffix(" draws")
     draws, signed, why = audit_of(contest, county, blocks, runs)
     row = row._replace(planned=planned, draws=draws, signed_off=signed, why=why)
@@ -125,14 +125,14 @@ def judged(row, contest, county, blocks, runs):
 
 
 def failed(row, without):
-    """The row of a contest of which something failed. Whoever was signed off before stays so, since draws that were made can't be undone."""
+    """The row of a contest for which something failed. A contest that was signed off before stays so, since draws that were made can't be undone."""
     if row is None or row.state != SIGNED_OFF:
         return without
     return row._replace(page="", why=f"signed off by {row.signed_off} draws; then failed: {without.why}")
 
 
 class Summary:
-    """All rows, the files that were read and those that were made."""
+    """All rows, the files that were read, and the files that were made."""
 
     def __init__(self, plan, failures):
         self.plan, self.rows, self.inputs, self.outputs, self.has_failed = plan, [], {}, {}, False
@@ -204,12 +204,12 @@ class Summary:
         return (made.get_template("summary.html.j2").render(rows=self.rows, counts=self.counts(), counties=counties, states=STATES) + "\n").encode()
 
     def digests(self):
-        """As sha256sum prints them, by name."""
+        """The digests as sha256sum prints them, sorted by name."""
         files = {path: digest for path, digest in {**self.inputs, **self.outputs}.items() if digest}
         return "".join(f"{files[path]}  {path}\n" for path in sorted(files)).encode()
 
     def left_over(self):
-        """Files that an earlier run made of other contests or terms."""
+        """The files that an earlier run made from other contests or terms."""
         for part in ("contests", "counties"):
             for folder, _, names in os.walk(os.path.join(self.plan.top, MADE, part)):
                 for name in names:

@@ -12,11 +12,11 @@ NAME = "terms.csv"
 EVERYWHERE = "*"
 AUDITS = ("contests", "session", "none", "skip")
 MOST = {"limit": GREATEST_LIMIT, "gamma": GREATEST_GAMMA, "floor": MOST_FLOOR, "nodes": MOST_NODES, "sets": MOST_SETS}
-OF_COUNTY = ("limit", "gamma", "seed", "draws")  # of a contest that `contests` audits they are the county's
+OF_COUNTY = ("limit", "gamma", "seed", "draws")  # for a contest that `contests` audits, these are the county's
 
 
 class Terms(NamedTuple):
-    """An empty text where the table is silent: then the program's own default holds."""
+    """The terms of a contest. A term is an empty text if the table doesn't say it: then the program's default applies."""
     audit: str = "none"
     limit: str = ""
     gamma: str = ""
@@ -36,7 +36,7 @@ def wrong(line, text):
 
 
 def value_of(column, text, line):
-    """A cell that isn't empty."""
+    """The value of a cell that isn't empty."""
     if column == "audit" and text not in AUDITS:
         raise wrong(line, f"audit is one of {', '.join(AUDITS)}, and not {text}")
     if column == "trim" and text not in ("yes", "no"):
@@ -56,7 +56,7 @@ def draws_of(text, line):
 
 
 class Table:
-    """The rows of the table by county and contest; the contest is empty in a row for all contests."""
+    """The rows of the table by county and contest. The contest is empty in a row for all contests."""
 
     def __init__(self, rows=()):
         self.rows, self.line_of = {}, {}
@@ -80,14 +80,14 @@ class Table:
                 raise wrong(line, f"contests audits this contest, so its {of_county[0]} is the county's: say so in a row without a contest")
 
     def of(self, county, contest=""):
-        """The terms of a county or a contest: each cell of the nearest row that has it."""
+        """The terms of a county or a contest: each cell is that of the most specific row that has it."""
         cells = {}
         for row in ((EVERYWHERE, ""), (county, ""), (county, contest)):
             cells.update(self.rows.get(row, {}))
         return Terms(**cells)
 
     def see_named(self, counties):
-        """Each row is about a county and a contest that are there. `counties` has the contests of each, or None where its file can't be read."""
+        """Checks that each row is about a county and a contest that exist. `counties` has the contests of each, or None if its file can't be read."""
         for (county, contest), line in self.line_of.items():
             if county != EVERYWHERE and county not in counties:
                 raise wrong(line, f"there is no folder counties/{county}")
@@ -96,7 +96,7 @@ class Table:
 
 
 def rows_of(file):
-    """Line, county and contest, and cells of each row."""
+    """The line, the county and contest, and the cells of each row."""
     reader = csv.DictReader(file, strict=True)
     head = [name.strip() for name in reader.fieldnames or []]
     unknown = [name for name in head if name not in ("county", "contest", *COLUMNS)]
@@ -116,7 +116,7 @@ def rows_of(file):
 
 
 def read(folder):
-    """The table of a state's folder. Where there is none, nothing is audited."""
+    """The table of a state's folder. If there is none, nothing is audited."""
     path = os.path.join(folder, NAME)
     if not os.path.exists(path):
         return Table()

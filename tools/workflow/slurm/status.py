@@ -1,5 +1,5 @@
 #!/usr/bin/python3
-"""Whether a job of Slurm runs, has succeeded or has failed, in the word that Snakemake wants: status.py JOB."""
+"""Prints whether a Slurm job is running, has succeeded or has failed, in the word that Snakemake expects: status.py JOB."""
 import re
 import subprocess
 import sys
@@ -16,7 +16,7 @@ def said(*words):
 
 
 def state_of(job):
-    """The word that Slurm has for the job's state; None where it doesn't answer, and an empty text where it knows no such job."""
+    """Slurm's word for the job's state; None if Slurm doesn't answer, and an empty text if it doesn't know the job."""
     status, text = said("scontrol", "--oneliner", "show", "job", job)
     found = re.search("JobState=([A-Z_]+)", text)
     if found:

@@ -741,7 +741,7 @@ def helps(tried):
     for words in (["--help"], ["-h"], ["help"]):
         ran = subprocess.run([RAIRE, "desk", *words], capture_output=True, text=True)
         tried.see(f"desk {words[0]} prints its page", (ran.returncode, ran.stdout) == (0, wanted), ran.stderr)
-    for words in ([], ["a", "b"], ["a", "--port", "0"], ["a", "--port=x"], ["--nothing", "a"]):
+    for words in ([], ["a", "b"], ["a", "--port", "0"], ["a", "--port=x"], ["--read", "a", "--port=8021"], ["--nothing", "a"]):
         ran = subprocess.run([RAIRE, "desk", *words], capture_output=True, text=True)
         tried.see(f"desk {words} is refused", ran.returncode == 1 and "./raire help desk" in ran.stderr, ran.stderr)
 

@@ -41,9 +41,12 @@ class Words(argparse.ArgumentParser):
 def words_of(words):
     parser = Words(prog=NAME, add_help=False, allow_abbrev=False)
     parser.add_argument("folder")
-    parser.add_argument("--port", type=int, default=PORT)
+    parser.add_argument("--port", type=int)
     parser.add_argument("--read", action="store_true")
     given = parser.parse_args(words)
+    if given.read and given.port is not None:
+        parser.error("--read serves nothing, so it takes no --port")
+    given.port = PORT if given.port is None else given.port
     if not 1 <= given.port <= 65_535:
         parser.error("--port is a number from 1 to 65535")
     return given

@@ -9,6 +9,7 @@ import fcntl
 import os
 import re
 import select
+import signal
 import subprocess
 import sys
 import tempfile
@@ -185,6 +186,7 @@ def failing_outputs(tried, script, program):
 
 
 def main():
+    signal.signal(signal.SIGINT, signal.default_int_handler)  # a shell that runs this in the background has it ignored
     program, tried = os.path.abspath(sys.argv[1]), Tried()
     with tempfile.TemporaryDirectory() as folder:
         stand_in, script, own = (os.path.join(folder, name) for name in ("stand_in", "raire", "raire_of_program"))

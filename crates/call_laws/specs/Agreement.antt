@@ -36,8 +36,8 @@ pub record MayChoose (words : List (List ℕ)) : Type 0 where
   pub has_choice : has_choice command ≡ true
 
 -- The call had these words, over a desk that holds these files. Nothing failed in it, and memory was found. It isn't a search, a tabulation
--- or a trial that ran out of its budget of nodes, nor an audit of a contest whose budget might run out, nor a search for the fewest NENs,
--- which may have several results.
+-- or a trial that ran out of its budget of nodes, nor an audit of all contests that might run out of nodes in one of them, nor a search for
+-- the fewest NENs, which may have several results.
 pub record IsSettled (words : List (List ℕ)) (files : List File) (call : Call) : Type 0 where
   pub answer : IsAnswered (asked words) (Some files) (Failed call) call.status call.out call.err
   pub quiet : IsQuiet (Failed call) call.out call.err

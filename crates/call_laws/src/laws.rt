@@ -42,7 +42,8 @@ pub fn fewest_come_to_the_same_status()
     ensures { FewestComeToTheSameStatus }
 {}
 
-/// Searches that differ only in their budgets, by nodes or by sets, come to the same status and bytes, unless a budget runs out.
+/// Searches that differ only in their budgets, by nodes or by sets, and in their numbers of workers come to the same status and bytes, unless
+/// a budget runs out.
 pub fn budgets_come_to_the_same()
     ensures { BudgetsComeToTheSame }
 {}
@@ -117,8 +118,8 @@ pub fn plural_signed_off_are_few()
 {}
 
 /// If no budget runs out, the block of a contest among others is what the same command prints for it by itself, that is, if the ballot file
-/// has `1` as its first record and neither file has a record of another contest. The law is about two calls, with any number of workers in
-/// each.
+/// has `1` as its first record and neither the ballot file nor the seen file has a record of another contest. The law is about two calls,
+/// with any number of workers in each.
 pub fn block_alone()
     ensures { BlockAlone }
 {}
@@ -154,8 +155,8 @@ pub fn printed_is_accepted()
     ensures { PrintedIsAccepted }
 {}
 
-/// A session is opened with what a search printed, if the printed text isn't too long for a file, the contest is the same, the manifest
-/// has a card for each ballot, nothing failed and memory was found.
+/// A session is opened with what a search printed, if the ballots, the contest and the budget are the same, the printed text isn't too long
+/// for a file, the manifest has a card for each ballot, nothing failed and memory was found.
 pub fn printed_is_opened()
     ensures { PrintedIsOpened }
 {}
@@ -166,8 +167,8 @@ pub fn fewest_is_accepted()
     ensures { FewestIsAccepted }
 {}
 
-/// A session is opened with what a search for the fewest NENs printed, if the printed text isn't too long for a file, the contest is the
-/// same, the manifest has a card for each ballot, nothing failed and memory was found.
+/// A session is opened with what a search for the fewest NENs printed, if the ballots, the contest and the number of sets are the same, the
+/// printed text isn't too long for a file, the manifest has a card for each ballot, nothing failed and memory was found.
 pub fn fewest_is_opened()
     ensures { FewestIsOpened }
 {}
@@ -178,7 +179,8 @@ pub fn trimmed_is_accepted()
     ensures { TrimmedIsAccepted }
 {}
 
-/// A trim of what a trim printed, with the same ballots and the same budget, prints the same text, unless the budget runs out.
+/// A trim of what a trim printed, with the same ballots, contest and budget, prints the same text, unless the budget runs out, if the text
+/// isn't too long for a file, nothing failed and memory was found.
 pub fn trimmed_is_trimmed()
     ensures { TrimmedIsTrimmed }
 {}
@@ -189,8 +191,8 @@ pub fn adopted_is_accepted()
     ensures { AdoptedIsAccepted }
 {}
 
-/// A session is opened with what an adoption printed, if the printed text isn't too long for a file, the contest is the same, the
-/// manifest has a card for each ballot, nothing failed and memory was found.
+/// A session is opened with what an adoption printed, if the ballots, the contest and the budget are the same, the printed text isn't too
+/// long for a file, the manifest has a card for each ballot, nothing failed and memory was found.
 pub fn adopted_is_opened()
     ensures { AdoptedIsOpened }
 {}

@@ -1,4 +1,4 @@
--- How large a budget must be for a search or a trial.
+-- How large a budget is enough for a search or a trial.
 use Rattle.std.specs.Prelude.{ℕ, ◌≤◌, List}
 use Rattle.assertions.specs.Hardness.{first_bound}
 use Rattle.bound_search.specs.Race.{work_for}
@@ -38,7 +38,7 @@ Suffices (Nodes nodes) ballots tabulated winner =
 Suffices (Sets sets) ballots tabulated winner = sets_of ballots winner ≤ sets
 
 -- for a contest that isn't decided: the budget has as many nodes as the race may need for each candidate that the tabulated order doesn't
--- elect, or as many sets as a search needs, unless the order that the search starts with settles it
+-- elect; or it has as many sets as a search needs, unless the order that the search starts with shows that the contest isn't decided
 abbrev pub SufficesForTie : Budget → BallotFile → Type 0
 SufficesForTie (Nodes nodes) ballots =
     (winner c : ℕ) (won : IsWon ballots winner) → IsOther ballots winner c →

@@ -39,7 +39,7 @@ AreEnough files judging =
     assertion_file_of bytes ≡ Ok file →
     IsEnoughFor (count_in file) judging.budget
 
--- if the contest has n candidates, the budget of the adoption has as many
+-- if the contest has n candidates, the budget of the adoption has at least 2 * (n - 1)! nodes, or at least 2^n - 3 sets
 abbrev pub AreEnoughToAdopt : List File → AdoptTask → Type 0
 AreEnoughToAdopt files task =
     (ballots : BallotFile) → AreBallots files task.ballots task.contest ballots →

@@ -42,7 +42,7 @@ module _ (task : PollEachTask) (inputs : PollInputs) where
   abbrev pub claims : List Polled
   claims = polled_of task.gamma cards inputs.file
 
-  -- how what is seen of the first of the drawn cards counts for a claim
+  -- the values that what is seen of the drawn cards has for a claim, up to this number of draws
   abbrev pub seen_values : Polled → ℕ → List ℕ
   seen_values claim draws = take draws (values_of seen (drawn task.draws) claim)
 

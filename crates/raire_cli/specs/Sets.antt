@@ -95,8 +95,8 @@ pub record AreOfRound (files : List File) (task : AuditTask) (ballots : BallotFi
 
 -- ---- each command that may have a number of sets
 
--- a search or a trial needs more sets, or more sets count in the check of an assertion file, after everything that is judged before the
--- check was accepted
+-- a search or a trial needs more sets, or more sets count in the check of an assertion file or of claims, and everything that is judged
+-- before that was accepted
 abbrev pub MoreCount : List File → Command → ℕ → Type 0
 MoreCount files (Search task) sets =
     (ballots : BallotFile) × IsAbout files (Search task) ballots × NeedsMore sets ballots

@@ -120,7 +120,7 @@ pub fn run<R: AllocGlobal + Threads + Sync, D: Desk, O: Sink, E: Sink, G: Gate +
     ensures accepted { IsUpheld (D.held desk.old) (texts words.now) result
         (writing O.Sink out.old out.new) }
 
-    // Like the file that was read, a trimmed assertion file holds, and each of its assertions is needed.
+    // A trimmed assertion file holds, like the file that was read. Each assertion of the trimmed file is needed.
     ensures trimmed { IsTrimmed (D.held desk.old) (texts words.now) result
         (writing O.Sink out.old out.new) }
 
@@ -186,15 +186,16 @@ pub fn run<R: AllocGlobal + Threads + Sync, D: Desk, O: Sink, E: Sink, G: Gate +
     ensures exact { IsExactUnlessOpen
         (files_known (texts words.now) (D.held desk.old)) (texts words.now) result }
 
-    // The desk begins the first of the files that the command reads, each once, and no others: all that the command reads before it answers
-    // or a rule refuses, or those up to the file that 7, 11 or 12 names, or some of them if memory runs out. The outcome that these files make
-    // is written.
+    // The desk begins the first files that the command reads, each once, and no others: all that the command reads before it answers or a
+    // rule refuses, or those up to the file that 7, 11 or 12 names, or some of them if memory runs out. The outcome that these files make is
+    // written.
     ensures begun { Story (asked (texts words.now)) (D.held desk.old)
         (Rose (D.faults desk.old) (D.faults desk.new)) (D.served desk.old) (D.served desk.new) result
         (writing O.Sink out.old out.new) (writing E.Sink err.old err.new) }
 
-    // Statuses 11 and 12 occur exactly when that is what the desk served, whether or not it reports what it holds. The number of files that
-    // `begun` is about is at most the number that the words name, and with status 0 it is that number.
+    // Unless the call ends with 8 or 9, it ends with 11 exactly when the desk served a file that is too long, and with 12 exactly when the
+    // desk served that there is no such file, whether or not the desk reports what it holds. The number of files that `begun` is about is at
+    // most the number that the words name, and with status 0 it is that number.
     ensures served { IsAccountedFor (file_count (texts words.now))
         (D.served desk.old) (D.served desk.new) result }
 
